@@ -1,0 +1,1 @@
+// The ladder with unlimited lists: definitions in specs/, theorems in proofs/, no code.

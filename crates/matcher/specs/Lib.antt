@@ -1,0 +1,2 @@
+pub mod Matcher
+pub mod Stroke

@@ -1,0 +1,150 @@
+-- The ladder on a watch that stores, for each stage, held, first, last and step (document 01, "Ladder"). Defined for every watch, also for
+-- those to which no history leads. `Refinement` shows that it is the ladder with unlimited lists.
+use Prim.Native.Nat.{ℕ, zero, suc, _+_, _-_}
+use mathlib.Core.Bool.{Bool, true, false, cond, not, _&&_}
+use mathlib.Core.List.{List, [], _∷_}
+use lib.ListN.{getD, set, replicate}
+use lib.Dec.{ltb, leb, eqb}
+use Rattle.fingerprint.specs.declared.Key.{Key}
+use Rattle.fingerprint.specs.declared.Fingerprint.{Fingerprint}
+use Rattle.fingerprint.specs.Fingerprint.{same, empty, pushed, joined, rest}
+use Rattle.ladder.specs.Prefix.{levels, prefixLength}
+use Rattle.signature.specs.declared.Signature.{Signature}
+use Rattle.matcher.specs.declared.Mark.{Mark}
+use Rattle.matcher.specs.declared.Gap.{Gap}
+use Rattle.matcher.specs.declared.Stage.{Stage}
+use Rattle.matcher.specs.declared.Matcher.{Matcher}
+use Rattle.matcher.specs.declared.Ring.{Ring}
+use Rattle.matcher.specs.declared.Ring.the-variants.{Silent, At}
+use Rattle.matcher.specs.declared.Progression.{Progression}
+use Rattle.matcher.specs.declared.Answer.{Answer}
+use Rattle.matcher.specs.Matcher.{maxTaken, stageCount, noGap, noStage, sameGap, matcherFits}
+
+-- The block between two marks: "the print of a gap comes from F_last and the newcomer's F".
+abbrev pub gapTo : Key → Mark → Mark → Gap
+gapTo key a b = record { length = b .at - a .at; print = rest key (b .print) (a .print) (b .at - a .at) }
+
+-- "Taking off the first of several adds the step to first and joins the step print to F_first".
+abbrev pub forward : Key → Mark → Gap → Mark
+forward key a gap = record { at = a .at + gap .length; print = joined key (a .print) (gap .print) (gap .length) }
+
+-- a stage that lists one start
+abbrev pub alone : Mark → Stage
+alone mark = record { held = 1; first = mark; last = mark; step = noGap }
+
+-- The stage without its first start: ".. when one is left, last and F_last become first and F_first, and step and step print 0".
+unfoldable pub takenOff : Key → Stage → Stage
+takenOff key s =
+    cond (eqb (s .held) 1) noStage
+    (cond (eqb (s .held) 2) (alone (forward key (s .first) (s .step)))
+    (record { held = s .held - 1; first = forward key (s .first) (s .step); last = s .last; step = s .step }))
+
+-- "Into a stage that lists none or one, the start is added. With two or more .. the newcomer is added if its gap to the last start equals
+-- the step and the bytes of that gap have the step print. Otherwise .. the last and the newcomer remain"; "a last kept at a setting aside
+-- becomes first with its F_last as F_first".
+unfoldable pub entered : Key → Stage → Mark → Stage
+entered key s new =
+    cond (eqb (s .held) 0) (alone new)
+    (cond (not (eqb (s .held) 1) && sameGap (gapTo key (s .last) new) (s .step))
+    (record { held = suc (s .held); first = s .first; last = new; step = s .step })
+    (record { held = 2; first = s .last; last = new; step = gapTo key (s .last) new }))
+
+-- Whether entering sets starts aside.
+abbrev pub setsAside : Key → Stage → Mark → Bool
+setsAside key s new = ltb 1 (s .held) && not (sameGap (gapTo key (s .last) new) (s .step))
+
+-- "all listed starts but the last are set aside, as (first, step, how many)"
+abbrev pub allButLast : Stage → Progression
+allButLast s = record { first = s .first .at; step = s .step .length; many = s .held - 1 }
+
+abbrev pub noProgression : Progression
+noProgression = record { first = 0; step = 0; many = 0 }
+
+-- the answer before anything was found, and where a byte is refused
+abbrev pub noAnswer : Answer
+noAnswer = record { ring = Silent; sets = replicate stageCount noProgression; asides = 0; comparisons = 0 }
+
+abbrev pub ringing : ℕ → Answer → Answer
+ringing start a = record { ring = At start; sets = a .sets; asides = a .asides; comparisons = a .comparisons }
+
+abbrev pub withSet : Progression → Answer → Answer
+withSet x a =
+    record { ring = a .ring; sets = set (a .sets) (a .asides) x; asides = suc (a .asides); comparisons = a .comparisons }
+
+abbrev pub compared : Answer → Answer
+compared a =
+    record { ring = a .ring; sets = a .sets; asides = a .asides; comparisons = suc (a .comparisons) }
+
+-- What has come of a byte so far.
+pub record Walk : Type 0 where
+  pub stages : List Stage
+  pub answer : Answer
+
+-- A card and the mark of t and F_t: what stays the same while the stages are visited.
+pub record Round : Type 0 where
+  pub signature : Signature
+  pub now : Mark
+
+-- "it is rung if i = k, else it enters stage i": the start whose block just matched P_i.
+unfoldable pub promoted : Round → ℕ → Mark → Walk → Walk
+promoted c i start w =
+    let s : Stage = getD (w .stages) i noStage in
+    let key : Key = c .signature .key in
+    cond (eqb i (levels (c .signature .length)))
+    (record { stages = w .stages; answer = ringing (start .at) (w .answer) })
+    (record {
+      stages = set (w .stages) i (entered key s start);
+      answer = cond (setsAside key s start) (withSet (allButLast s) (w .answer)) (w .answer);
+    })
+
+-- "the last |P_i| bytes are compared by fingerprint with P_i": those from the start to now.
+abbrev pub matches : Round → ℕ → Mark → Bool
+matches c i start = same (gapTo (c .signature .key) start (c .now) .print) (getD (c .signature .prints) i empty)
+
+unfoldable pub tried : Round → ℕ → Mark → Walk → Walk
+tried c i start w =
+    let counted : Walk = record { stages = w .stages; answer = compared (w .answer) } in
+    cond (matches c i start) (promoted c i start counted) counted
+
+-- "If stage i lists the start t - |P_(i+1)|": in a watch that is no misfit only its first can be that.
+abbrev pub ripe : Round → ℕ → Stage → Bool
+ripe c i s = not (eqb (s .held) 0) && eqb (s .first .at + prefixLength (c .signature .length) (suc i)) (c .now .at)
+
+unfoldable pub visited : Round → ℕ → Walk → Walk
+visited c i w =
+    let s : Stage = getD (w .stages) i noStage in
+    cond (ripe c i s)
+    (tried c (suc i) (s .first) (record { stages = set (w .stages) i (takenOff (c .signature .key) s); answer = w .answer }))
+    w
+
+-- "Stages are visited from k-1 down to 0": those below i, the highest first.
+unfoldable pub descended : Round → ℕ → Walk → Walk
+descended c zero w = w
+descended c (suc i) w = descended c i (visited c i w)
+
+-- t and F_t with one byte more
+abbrev pub nextMark : Key → Mark → ℕ → Mark
+nextMark key now byte = record { at = suc (now .at); print = pushed key (now .print) byte }
+
+-- "At each byte, t rises by one. Then": the stages, and "start t-1 is compared with P_0".
+unfoldable pub walked : Matcher → ℕ → Walk
+walked w byte =
+    let c : Round = record { signature = w .signature; now = nextMark (w .signature .key) (w .now) byte } in
+    tried c 0 (w .now) (descended c (levels (w .signature .length)) (record { stages = w .stages; answer = noAnswer }))
+
+-- The stroke's refusals: 10 misfit, 6 spent.
+abbrev pub strokeRefusal : Matcher → ℕ
+strokeRefusal w = cond (matcherFits w) (cond (ltb (w .now .at) maxTaken) 0 6) 10
+
+unfoldable pub strokeAnswer : Matcher → ℕ → Answer
+strokeAnswer w byte = cond (eqb (strokeRefusal w) 0) (walked w byte .answer) noAnswer
+
+unfoldable pub afterStroke : Matcher → ℕ → Matcher
+afterStroke w byte =
+    cond (eqb (strokeRefusal w) 0)
+    (record {
+      signature = w .signature;
+      now = nextMark (w .signature .key) (w .now) byte;
+      stages = walked w byte .stages;
+    })
+    w

@@ -1,0 +1,72 @@
+-- Cards and half-made cards, and when they misfit (document 01, "Card" and "Misfit").
+use Prim.Native.Nat.{ℕ, suc, _+_}
+use mathlib.Core.Bool.{Bool, true, cond, _&&_}
+use mathlib.Core.List.{List, []}
+use lib.ListN.{length, getD, take, replicate}
+use lib.Dec.{leb, eqb}
+use Rattle.fingerprint.specs.declared.Key.{Key}
+use Rattle.fingerprint.specs.declared.Fingerprint.{Fingerprint}
+use Rattle.fingerprint.specs.Fingerprint.{keyFits, printFits, same, empty, fp}
+use Rattle.ladder.specs.Prefix.{levels, prefixLength, prefix}
+use Rattle.sequence.specs.Sequence.{every, tabulate}
+use Rattle.signature.specs.declared.Signature.{Signature}
+use Rattle.signature.specs.declared.Builder.{Builder}
+
+-- "A passage has m bytes, 1 to 1048576."
+abbrev pub maxLength : ℕ
+maxLength = 1048576
+
+abbrev pub lengthFits : ℕ → Bool
+lengthFits m = leb 1 m && leb m maxLength
+
+-- Places for fingerprints: P_0 to P_20.
+abbrev pub places : ℕ
+places = 21
+
+-- Whether n bytes of a pattern of m bytes reach P_i, i being no more than k.
+abbrev pub reached : ℕ → ℕ → ℕ → Bool
+reached m n i = leb i (levels m) && leb (prefixLength m i) n
+
+-- The prints after n of m bytes: one that is reached is below p; "a print not yet reached" and "a print past P_k" are 0; and the first is
+-- not "over 255".
+unfoldable pub printsFit : ℕ → ℕ → List Fingerprint → Bool
+printsFit m n prints =
+    leb (getD prints 0 empty .value) 255
+    && every (λ i. cond (reached m n i) (printFits (getD prints i empty)) (same (getD prints i empty) empty)) places
+
+-- A card is no misfit: "m or r outside limits; a fingerprint not below p; a first fingerprint over 255; .. a print past P_k .. that isn't
+-- all 0". All of its m bytes were taken.
+unfoldable pub signatureFits : Signature → Bool
+signatureFits s = lengthFits (s .length) && keyFits (s .key) && printsFit (s .length) (s .length) (s .prints)
+
+-- A half-made card is no misfit: "more than m bytes or its prints are not below p, or a print not yet reached is not 0, or its running
+-- print is not 0 at 0 bytes"; and what holds of a card's m, r, first print and prints past P_k holds of it too.
+unfoldable pub builderFits : Builder → Bool
+builderFits b =
+    lengthFits (b .length)
+    && keyFits (b .key)
+    && leb (b .taken) (b .length)
+    && printFits (b .print)
+    && cond (eqb (b .taken) 0) (same (b .print) empty) true
+    && printsFit (b .length) (b .taken) (b .prints)
+
+-- The prints once byte number n of m is taken, with which the running print is f: f is stored for the prefix that it completes.
+unfoldable pub stored : ℕ → ℕ → Fingerprint → List Fingerprint → List Fingerprint
+stored m n f prints =
+    tabulate (λ i. cond (leb i (levels m) && eqb (prefixLength m i) n) f (getD prints i empty)) places
+
+-- "The card holds m, r and the k + 1 fingerprints": the card of a pattern under a key.
+unfoldable pub signatureOf : Key → List ℕ → Signature
+signatureOf key p =
+    record {
+      length = length p;
+      key = key;
+      prints = tabulate (λ i. cond (leb i (levels (length p))) (fp key (prefix p i)) empty) places;
+    }
+
+-- What stands in a result where the call is refused.
+abbrev pub noSignature : Signature
+noSignature = record { length = 0; key = record { r = 0 }; prints = replicate places empty }
+
+abbrev pub noBuilder : Builder
+noBuilder = record { length = 0; key = record { r = 0 }; taken = 0; print = empty; prints = replicate places empty }
