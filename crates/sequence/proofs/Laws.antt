@@ -23,6 +23,10 @@ and-right false b e = cc
 pub and-both : {a b : Bool} → a ≡ true → b ≡ true → a && b ≡ true
 and-both ha hb = rw (ha, hb)
 
+pub every-none : (test : ℕ → Bool) → every test 0 ≡ true
+unfolding every
+every-none test = refl
+
 -- one place more
 pub every-more : (test : ℕ → Bool) (n : ℕ) → every test n ≡ true → test n ≡ true → every test (n + 1) ≡ true
 unfolding every
@@ -72,7 +76,11 @@ module _ {A : Type 0} (f : ℕ → A) where
       ext-getD d l (tabulate f n) (e ∙ sym (length-tabulate n))
       (λ i m. let m′ : i < n = rw e at m in h i m′ ∙ sym (getD-tabulate n i d m′))
 
-  -- a loop that fills a list from the front: one store more, and the end
+  -- a loop that fills a list from the front: no store yet, one more, and the end
+  pub fill-none : (l : List A) → take 0 l ≡ tabulate f 0
+  unfolding tabulate
+  fill-none l = refl
+
   pub fill-more :
       (l : List A) (i : ℕ) → i < length l → take i l ≡ tabulate f i → take (i + 1) (set l i (f i)) ≡ tabulate f (i + 1)
   unfolding tabulate

@@ -2,22 +2,18 @@
 use Prim.Native.Nat.{ℕ, suc}
 use mathlib.Core.Bool.{Bool, cond}
 use lib.Dec.{ltb, leb, eqb}
-use lib.ListN.{replicate}
 use Rattle.fingerprint.specs.declared.Key.{Key}
 use Rattle.fingerprint.specs.Fingerprint.{keyFits, empty, pushed}
 use Rattle.signature.specs.declared.Signature.{Signature}
 use Rattle.signature.specs.declared.Builder.{Builder}
-use Rattle.signature.specs.Signature.{maxLength, places, builderFits, stored, noBuilder, noSignature}
+use Rattle.signature.specs.Signature.{maxLength, builderFits, stored, nothingTaken, noBuilder, noSignature}
 
 -- "The maker is told m and r first": 1 empty, 2 overlong, 3 key.
 abbrev pub beginRefusal : ℕ → Key → ℕ
 beginRefusal m key = cond (eqb m 0) 1 (cond (ltb maxLength m) 2 (cond (keyFits key) 0 3))
 
 unfoldable pub begun : ℕ → Key → Builder
-begun m key =
-    cond (eqb (beginRefusal m key) 0)
-    (record { length = m; key = key; taken = 0; print = empty; prints = replicate places empty })
-    noBuilder
+begun m key = cond (eqb (beginRefusal m key) 0) (nothingTaken m key) noBuilder
 
 -- ".. then takes the bytes singly": 10 misfit, 5 surplus.
 abbrev pub pushRefusal : Builder → ℕ

@@ -27,12 +27,13 @@ places = 21
 abbrev pub reached : ℕ → ℕ → ℕ → Bool
 reached m n i = leb i (levels m) && leb (prefixLength m i) n
 
--- The prints after n of m bytes: one that is reached is below p; "a print not yet reached" and "a print past P_k" are 0; and the first is
--- not "over 255".
+-- A print after n of m bytes: one that is reached is below p; "a print not yet reached" and "a print past P_k" are 0.
+abbrev pub placeFits : ℕ → ℕ → List Fingerprint → ℕ → Bool
+placeFits m n prints i = cond (reached m n i) (printFits (getD prints i empty)) (same (getD prints i empty) empty)
+
+-- All prints after n of m bytes; the first is not "over 255".
 unfoldable pub printsFit : ℕ → ℕ → List Fingerprint → Bool
-printsFit m n prints =
-    leb (getD prints 0 empty .value) 255
-    && every (λ i. cond (reached m n i) (printFits (getD prints i empty)) (same (getD prints i empty) empty)) places
+printsFit m n prints = leb (getD prints 0 empty .value) 255 && every (placeFits m n prints) places
 
 -- A card is no misfit: "m or r outside limits; a fingerprint not below p; a first fingerprint over 255; .. a print past P_k .. that isn't
 -- all 0". All of its m bytes were taken.
@@ -50,10 +51,12 @@ builderFits b =
     && cond (eqb (b .taken) 0) (same (b .print) empty) true
     && printsFit (b .length) (b .taken) (b .prints)
 
--- The prints once byte number n of m is taken, with which the running print is f: f is stored for the prefix that it completes.
+-- A print once byte number n of m is taken, with which the running print is f: f is stored for the prefix that it completes.
+abbrev pub storedAt : ℕ → ℕ → Fingerprint → List Fingerprint → ℕ → Fingerprint
+storedAt m n f prints i = cond (leb i (levels m) && eqb (prefixLength m i) n) f (getD prints i empty)
+
 unfoldable pub stored : ℕ → ℕ → Fingerprint → List Fingerprint → List Fingerprint
-stored m n f prints =
-    tabulate (λ i. cond (leb i (levels m) && eqb (prefixLength m i) n) f (getD prints i empty)) places
+stored m n f prints = tabulate (storedAt m n f prints) places
 
 -- "The card holds m, r and the k + 1 fingerprints": the card of a pattern under a key.
 unfoldable pub signatureOf : Key → List ℕ → Signature
@@ -68,5 +71,9 @@ signatureOf key p =
 abbrev pub noSignature : Signature
 noSignature = record { length = 0; key = record { r = 0 }; prints = replicate places empty }
 
+-- A half-made card with no byte taken.
+abbrev pub nothingTaken : ℕ → Key → Builder
+nothingTaken m key = record { length = m; key = key; taken = 0; print = empty; prints = replicate places empty }
+
 abbrev pub noBuilder : Builder
-noBuilder = record { length = 0; key = record { r = 0 }; taken = 0; print = empty; prints = replicate places empty }
+noBuilder = nothingTaken 0 (record { r = 0 })

@@ -1,25 +1,12 @@
 // The signature of a pattern (document 01, "Card"): the fingerprints of its tested prefixes, made byte by byte.
 ghost use mathlib.Core.Path.{_≡_};
-ghost use mathlib.Core.Bool.{Bool, true, _&&_};
-ghost use Prim.Native.Nat.{_≤_, _<_, _^_, min};
+ghost use mathlib.Core.Bool.{true, cond, _&&_};
 ghost use lib.Dec.{leb, eqb};
+ghost use Rattle.fingerprint.specs.Fingerprint.{empty, same, printFits};
+ghost use Rattle.ladder.specs.Prefix.{levels, prefixLength};
 ghost use Rattle.refusal.specs.Number.{number};
-ghost use Rattle.ladder.specs.Prefix.{levels};
-ghost use Rattle.signature.specs.Signature.{
-  lengthFits,
-  printsFit,
-  signatureFits,
-  builderFits,
-  stored,
-};
-ghost use Rattle.signature.specs.Maker.{
-  beginRefusal,
-  begun,
-  pushRefusal,
-  afterPush,
-  finishRefusal,
-  finished,
-};
+ghost use Rattle.signature.specs.Signature.{lengthFits, reached, printsFit, signatureFits, builderFits, nothingTaken, noSignature, stored};
+ghost use Rattle.signature.specs.Maker.{beginRefusal, begun, pushRefusal, afterPush, finishRefusal, finished};
 use fingerprint::Fingerprint;
 use fingerprint::Key;
 use refusal::Refusal;
@@ -27,9 +14,6 @@ use refusal::Verdict;
 
 // The longest pattern.
 pub const MAX_LENGTH: u32 = 1048576;
-
-// Places for fingerprints: P_0 to P_20.
-pub const PRINTS: usize = 21;
 
 // A card: the pattern's length m, the key, and the fingerprints of P_0 .. P_k, 0 past them.
 pub struct Signature {
@@ -70,4 +54,311 @@ pub fn levels(m: u32) -> u32
         k = k + 1;
     }
     k
+}
+
+// 2^0 to 2^31.
+const POWERS: [u32; 32] = [
+    1,
+    2,
+    4,
+    8,
+    16,
+    32,
+    64,
+    128,
+    256,
+    512,
+    1024,
+    2048,
+    4096,
+    8192,
+    16384,
+    32768,
+    65536,
+    131072,
+    262144,
+    524288,
+    1048576,
+    2097152,
+    4194304,
+    8388608,
+    16777216,
+    33554432,
+    67108864,
+    134217728,
+    268435456,
+    536870912,
+    1073741824,
+    2147483648,
+];
+
+// |P_i| of a pattern of m bytes: the smaller of 2^i and m.
+pub fn prefix_length(m: u32, i: u32) -> u32
+    ensures { λ n. ⌜ n ≡ prefixLength m i ⌝ }
+{
+    if 32 <= i {
+        return m;
+    }
+    let size = POWERS[i as usize];
+    if size <= m { size } else { m }
+}
+
+// Whether `taken` bytes of a pattern of m bytes reach P_i, where k is its last.
+fn reaches(m: u32, taken: u32, k: u32, i: u32) -> bool
+    requires { ⌜ k ≡ levels m ⌝ }
+    ensures { λ ok. ⌜ ok ≡ reached m taken i ⌝ }
+{
+    if k < i {
+        return false;
+    }
+    prefix_length(m, i) <= taken
+}
+
+// Whether a print can stand where P_i is reached, or not reached.
+fn place_fits(print: Fingerprint, reached: bool) -> bool
+    ensures { λ ok. ⌜ ok ≡ cond reached (printFits print) (same print empty) ⌝ }
+{
+    if reached {
+        print.fits()
+    } else {
+        print.equals(Fingerprint::empty())
+    }
+}
+
+fn prints_fit(prints: [Fingerprint; 21], m: u32, taken: u32) -> bool
+    ensures { λ ok. ⌜ ok ≡ printsFit m taken prints ⌝ }
+{
+    let first = prints[0];
+    if 255 < first.value {
+        return false;
+    }
+    let k = levels(m);
+    let mut i: u32 = 0;
+    while i < 21 {
+        let print = prints[i as usize];
+        let reached = reaches(m, taken, k, i);
+        if !place_fits(print, reached) {
+            return false;
+        }
+        i = i + 1;
+    }
+    true
+}
+
+fn length_fits(m: u32) -> bool
+    ensures { λ ok. ⌜ ok ≡ lengthFits m ⌝ }
+{
+    if m < 1 {
+        return false;
+    }
+    m <= MAX_LENGTH
+}
+
+// Whether P_i of a pattern of m bytes is complete with byte number n, where k is its last.
+fn completes(m: u32, n: u32, k: u32, i: u32) -> bool
+    requires { ⌜ k ≡ levels m ⌝ }
+    ensures { λ ok. ⌜ ok ≡ (leb i (levels m) && eqb (prefixLength m i) n) ⌝ }
+{
+    if k < i {
+        return false;
+    }
+    prefix_length(m, i) == n
+}
+
+fn either(test: bool, yes: Fingerprint, no: Fingerprint) -> Fingerprint
+    ensures { λ r. ⌜ r ≡ cond test yes no ⌝ }
+{
+    if test { yes } else { no }
+}
+
+// The prints with `print` stored for the prefix of m bytes that byte number n completes.
+fn store(prints: [Fingerprint; 21], m: u32, n: u32, print: Fingerprint) -> [Fingerprint; 21]
+    ensures { λ after. ⌜ after ≡ stored m n print prints ⌝ }
+{
+    let k = levels(m);
+    let mut after = [print; 21];
+    let mut i: u32 = 0;
+    while i < 21 {
+        let old = prints[i as usize];
+        let complete = completes(m, n, k, i);
+        after[i as usize] = either(complete, print, old);
+        i = i + 1;
+    }
+    after
+}
+
+impl Signature {
+    // What stands in a result where a call is refused.
+    pub fn none() -> Signature
+        ensures { λ s. ⌜ s ≡ noSignature ⌝ }
+    {
+        let nothing = Fingerprint::empty();
+        Signature {
+            length: 0,
+            key: Key { r: 0 },
+            prints: [nothing; 21],
+        }
+    }
+
+    // Whether the card is no misfit.
+    pub fn fits(self) -> bool
+        ensures { λ ok. ⌜ ok ≡ signatureFits self ⌝ }
+    {
+        let m = self.length;
+        if !length_fits(m) {
+            return false;
+        }
+        let key = self.key;
+        if !key.fits() {
+            return false;
+        }
+        let prints = self.prints;
+        prints_fit(prints, m, m)
+    }
+}
+
+impl Builder {
+    // Begins a card for a pattern of m bytes. Refusals: 1 empty, 2 overlong, 3 key.
+    pub fn begin(m: u32, key: Key) -> Building
+        ensures verdict { λ r. ⌜ number (r .verdict) ≡ beginRefusal m key ⌝ }
+        ensures builder { λ r. ⌜ r .builder ≡ begun m key ⌝ }
+    {
+        if m == 0 {
+            return Building {
+                verdict: Verdict::Refused(Refusal::Empty),
+                builder: Builder::blank(0, Key { r: 0 }),
+            };
+        }
+        if MAX_LENGTH < m {
+            return Building {
+                verdict: Verdict::Refused(Refusal::Overlong),
+                builder: Builder::blank(0, Key { r: 0 }),
+            };
+        }
+        if !key.fits() {
+            return Building {
+                verdict: Verdict::Refused(Refusal::Key),
+                builder: Builder::blank(0, Key { r: 0 }),
+            };
+        }
+        Building {
+            verdict: Verdict::Accepted,
+            builder: Builder::blank(m, key),
+        }
+    }
+
+    // No bytes taken.
+    fn blank(m: u32, key: Key) -> Builder
+        ensures { λ b. ⌜ b ≡ nothingTaken m key ⌝ }
+    {
+        let nothing = Fingerprint::empty();
+        Builder {
+            length: m,
+            key,
+            taken: 0,
+            print: nothing,
+            prints: [nothing; 21],
+        }
+    }
+
+    // Whether the half-made card is no misfit.
+    pub fn fits(self) -> bool
+        ensures { λ ok. ⌜ ok ≡ builderFits self ⌝ }
+    {
+        let m = self.length;
+        let taken = self.taken;
+        let key = self.key;
+        let print = self.print;
+        if !length_fits(m) {
+            return false;
+        }
+        if !key.fits() {
+            return false;
+        }
+        if m < taken {
+            return false;
+        }
+        if !print.fits() {
+            return false;
+        }
+        if !running_fits(taken, print) {
+            return false;
+        }
+        let prints = self.prints;
+        prints_fit(prints, m, taken)
+    }
+
+    // Takes a byte of the pattern. Refusals: 10 misfit, 5 surplus.
+    pub fn push(self, byte: u8) -> Building
+        ensures verdict { λ r. ⌜ number (r .verdict) ≡ pushRefusal self ⌝ }
+        ensures builder { λ r. ⌜ r .builder ≡ afterPush self byte ⌝ }
+    {
+        if !self.fits() {
+            return Building {
+                verdict: Verdict::Refused(Refusal::Misfit),
+                builder: self,
+            };
+        }
+        let m = self.length;
+        if m <= self.taken {
+            return Building {
+                verdict: Verdict::Refused(Refusal::Surplus),
+                builder: self,
+            };
+        }
+        let key = self.key;
+        let taken = self.taken + 1;
+        let print = self.print.push(key, byte);
+        let before = self.prints;
+        let prints = store(before, m, taken, print);
+        Building {
+            verdict: Verdict::Accepted,
+            builder: Builder {
+                length: m,
+                key,
+                taken,
+                print,
+                prints,
+            },
+        }
+    }
+
+    // Gives the card. Refusals: 10 misfit, 4 unfinished.
+    pub fn finish(self) -> Finished
+        ensures verdict { λ r. ⌜ number (r .verdict) ≡ finishRefusal self ⌝ }
+        ensures signature { λ r. ⌜ r .signature ≡ finished self ⌝ }
+    {
+        if !self.fits() {
+            return Finished {
+                verdict: Verdict::Refused(Refusal::Misfit),
+                signature: Signature::none(),
+            };
+        }
+        if self.taken < self.length {
+            return Finished {
+                verdict: Verdict::Refused(Refusal::Unfinished),
+                signature: Signature::none(),
+            };
+        }
+        let prints = self.prints;
+        let key = self.key;
+        Finished {
+            verdict: Verdict::Accepted,
+            signature: Signature {
+                length: self.length,
+                key,
+                prints,
+            },
+        }
+    }
+}
+
+// A running print is 0 at 0 bytes.
+fn running_fits(taken: u32, print: Fingerprint) -> bool
+    ensures { λ ok. ⌜ ok ≡ cond (eqb taken 0) (same print empty) true ⌝ }
+{
+    if taken == 0 {
+        return print.equals(Fingerprint::empty());
+    }
+    true
 }
