@@ -1,13 +1,11 @@
 -- The number of stages and the lengths of the tested beginnings: k is the least with 2^k ≥ m, and |P_i| is 2^i below k and m at k.
-use Prim.Native.Nat.{ℕ, zero, suc, _+_, _-_, _*_, _^_, _≤_, _<_, min}
-use mathlib.Core.Path.{_≡_, refl, sym, ap, subst}
+use Prim.Native.Nat.{ℕ, zero, suc, _+_, _-_, _*_, _^_, _≤_, _<_}
+use mathlib.Core.Path.{_≡_}
 use mathlib.Core.Logic.{_⊎_, inl, inr}
-use mathlib.Core.Bool.{Bool, true, false}
-use native.Mathlib.Nat.{zero-add, le-of-suc-le-suc, add-zero, suc-add, add-suc, lt-of-not-le, min-eq-left, min-eq-right, pow-succ'}
+use native.Mathlib.Nat.{zero-add, le-of-suc-le-suc, add-zero, suc-add, add-suc, lt-of-not-le, min-eq-left, min-eq-right}
 use native.Mathlib.Decide.{decLe}
 use native.Mathlib.Omega.{arith}
-use lib.Dec.{leb}
-use lib.Pow.{pow-pos, pow-mono, pow-lt}
+use lib.Pow.{pow-pos, pow-mono}
 use borrow.Author.Tests.{le-leb, lt-leb}
 use Rattle.ladder.specs.Prefix.{leastFrom, levels, prefixLength}
 
@@ -69,8 +67,29 @@ early-length m i l = min-eq-left (omega (arith, below-levels m i l))
 pub length-rises : (m i : ℕ) → i < levels m → prefixLength m i < prefixLength m (suc i)
 length-rises m i l = omega (arith, below-levels m i l, pow-pos i)
 
+pub length-mono : (m i j : ℕ) → i ≤ j → prefixLength m i ≤ prefixLength m j
+length-mono m i j l = omega (arith, pow-mono l)
+
 pub length-doubles : (m i : ℕ) → prefixLength m (suc i) ≤ 2 * prefixLength m i
 length-doubles m i = omega arith
+
+-- The age T - s of a start lies between two lengths only.
+pub one-level :
+    (m i j s T : ℕ)
+    → s + prefixLength m i ≤ T
+    → T < s + prefixLength m (suc i)
+    → s + prefixLength m j ≤ T
+    → T < s + prefixLength m (suc j)
+    → i ≡ j
+one-level m i j s T a b a′ b′ =
+    elim (decLe (suc i) j) [
+      | yes l ↦ absurd (omega (arith, length-mono m (suc i) j l))
+      | no k ↦
+          elim (decLe (suc j) i) [
+            | yes l ↦ absurd (omega (arith, length-mono m (suc j) i l))
+            | no l ↦ omega arith
+          ]
+    ]
 
 pub length-within : (m i : ℕ) → prefixLength m i ≤ m
 length-within m i = omega arith

@@ -55,12 +55,14 @@ oneFits m i t s =
     && sameMark (s .last) (s .first)
     && sameGap (s .step) noGap
 
--- "held of 2 or more with step 0 or last not first + (held-1) × step" is a misfit, and so is a fingerprint not below p.
+-- "a fingerprint not below p" is a misfit.
+abbrev pub stagePrintsFit : Stage → Bool
+stagePrintsFit s = printFits (s .first .print) && printFits (s .last .print) && printFits (s .step .print)
+
+-- "held of 2 or more with step 0 or last not first + (held-1) × step" is a misfit.
 unfoldable pub manyFit : ℕ → ℕ → ℕ → Stage → Bool
 manyFit m i t s =
-    printFits (s .first .print)
-    && printFits (s .last .print)
-    && printFits (s .step .print)
+    stagePrintsFit s
     && ageFits m i t (s .first .at)
     && ageFits m i t (s .last .at)
     && not (eqb (s .step .length) 0)
@@ -72,13 +74,19 @@ stageFits m i t s =
     cond (eqb (s .held) 0) (noneFits s)
     (ltb i (levels m) && cond (eqb (s .held) 1) (oneFits m i t s) (manyFit m i t s))
 
--- A watch is no misfit: its card is none, F_t is a fingerprint and "not 0 at t = 0" does not hold, and each stage fits.
+abbrev pub fitsAt : ℕ → ℕ → List Stage → ℕ → Bool
+fitsAt m t stages i = stageFits m i t (getD stages i noStage)
+
+abbrev pub stagesFit : ℕ → ℕ → List Stage → Bool
+stagesFit m t stages = every (fitsAt m t stages) stageCount
+
+-- A watch is no misfit: its card is none, F_t is a fingerprint and 0 at t = 0, and each stage fits.
 unfoldable pub matcherFits : Matcher → Bool
 matcherFits w =
     signatureFits (w .signature)
     && printFits (w .now .print)
     && cond (eqb (w .now .at) 0) (same (w .now .print) empty) true
-    && every (λ i. stageFits (w .signature .length) i (w .now .at) (getD (w .stages) i noStage)) stageCount
+    && stagesFit (w .signature .length) (w .now .at) (w .stages)
 
 -- "A fresh one has t = 0, F_t = 0 and nothing listed": 10 for a card that misfits.
 abbrev pub freshRefusal : Signature → ℕ

@@ -18,6 +18,8 @@ use Rattle.matcher.specs.declared.Ring.{Ring}
 use Rattle.matcher.specs.declared.Ring.the-variants.{Silent, At}
 use Rattle.matcher.specs.declared.Progression.{Progression}
 use Rattle.matcher.specs.declared.Answer.{Answer}
+pub use Rattle.matcher.specs.declared.Round.{Round}
+pub use Rattle.matcher.specs.declared.Walk.{Walk}
 use Rattle.matcher.specs.Matcher.{maxTaken, stageCount, noGap, noStage, sameGap, matcherFits}
 
 -- The block between two marks: "the print of a gap comes from F_last and the newcomer's F".
@@ -74,16 +76,6 @@ withSet x a =
 abbrev pub compared : Answer → Answer
 compared a =
     record { ring = a .ring; sets = a .sets; asides = a .asides; comparisons = suc (a .comparisons) }
-
--- What has come of a byte so far.
-pub record Walk : Type 0 where
-  pub stages : List Stage
-  pub answer : Answer
-
--- A card and the mark of t and F_t: what stays the same while the stages are visited.
-pub record Round : Type 0 where
-  pub signature : Signature
-  pub now : Mark
 
 -- "it is rung if i = k, else it enters stage i": the start whose block just matched P_i.
 unfoldable pub promoted : Round → ℕ → Mark → Walk → Walk

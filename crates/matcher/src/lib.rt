@@ -1,5 +1,14 @@
 // The streaming matcher (document 01, "Ladder"): a watch in a few hundred bytes, and its answer to each byte.
 ghost use mathlib.Core.Path.{_≡_};
+ghost use mathlib.Core.Bool.{true, cond, not, _&&_};
+ghost use Prim.Native.Nat.{_+_, _-_, _*_, _≤_, _<_, suc};
+ghost use lib.Dec.{leb, ltb, eqb};
+ghost use lib.ListN.{getD};
+ghost use Rattle.ladder.specs.Prefix.{levels, prefixLength};
+ghost use Rattle.refusal.specs.Number.{number};
+ghost use Rattle.signature.specs.Signature.{signatureFits};
+ghost use Rattle.matcher.specs.Matcher.{origin, noGap, noStage, sameMark, sameGap, ageFits, noneFits, oneFits, manyFit, stagePrintsFit, stageFits, stagesFit, matcherFits, freshRefusal, fresh, blank};
+ghost use Rattle.matcher.specs.Stroke.{gapTo, forward, alone, takenOff, entered, setsAside, allButLast, noProgression, noAnswer, ripe, matches, descended, tried, nextMark, walked, strokeRefusal, strokeAnswer, afterStroke};
 use fingerprint::Fingerprint;
 use fingerprint::Key;
 use refusal::Refusal;
@@ -54,6 +63,18 @@ pub struct Answer {
     pub comparisons: u32,
 }
 
+// A card and the mark of t and F_t: what stays the same while the stages are visited.
+pub struct Round {
+    pub signature: Signature,
+    pub now: Mark,
+}
+
+// What has come of a byte so far: the stages, and the answer as it grows.
+pub struct Walk {
+    pub stages: [Stage; 20],
+    pub answer: Answer,
+}
+
 // What a fresh watch is asked for: it holds nothing where the card is refused.
 pub struct Started {
     pub verdict: Verdict,
@@ -65,4 +86,301 @@ pub struct Stroke {
     pub verdict: Verdict,
     pub answer: Answer,
     pub matcher: Matcher,
+}
+
+impl Mark {
+    // No bytes, whose fingerprint is 0.
+    fn origin() -> Mark
+        ensures { λ a. ⌜ a ≡ origin ⌝ }
+    {
+        Mark {
+            at: 0,
+            print: Fingerprint::empty(),
+        }
+    }
+
+    fn equals(self, other: Mark) -> bool
+        ensures { λ ok. ⌜ ok ≡ sameMark self other ⌝ }
+    {
+        if self.at == other.at {
+            let a = self.print;
+            let b = other.print;
+            return a.equals(b);
+        }
+        false
+    }
+
+    // The block from here to another mark.
+    fn gap_to(self, key: Key, to: Mark) -> Gap
+        ensures { λ g. ⌜ g ≡ gapTo key self to ⌝ }
+    {
+        let length = distance(self.at, to.at);
+        let from = self.print;
+        Gap {
+            length,
+            print: to.print.cut(key, from, length as u64),
+        }
+    }
+
+    // The mark behind a block that starts here.
+    fn forward(self, key: Key, gap: Gap) -> Mark
+        requires { ⌜ self .at + gap .length < 4294967296 ⌝ }
+        ensures { λ a. ⌜ a ≡ forward key self gap ⌝ }
+    {
+        let length = gap.length;
+        let print = gap.print;
+        Mark {
+            at: self.at + length,
+            print: self.print.join(key, print, length as u64),
+        }
+    }
+}
+
+// How many bytes stand between two places, none if the second comes first.
+fn distance(from: u32, to: u32) -> u32
+    ensures { λ n. ⌜ n ≡ to - from ⌝ }
+{
+    if to < from {
+        return 0;
+    }
+    to - from
+}
+
+impl Gap {
+    fn none() -> Gap
+        ensures { λ g. ⌜ g ≡ noGap ⌝ }
+    {
+        Gap {
+            length: 0,
+            print: Fingerprint::empty(),
+        }
+    }
+
+    fn equals(self, other: Gap) -> bool
+        ensures { λ ok. ⌜ ok ≡ sameGap self other ⌝ }
+    {
+        if self.length == other.length {
+            let a = self.print;
+            let b = other.print;
+            return a.equals(b);
+        }
+        false
+    }
+}
+
+// Whether t - start is from |P_i| to |P_(i+1)| - 1.
+fn age_fits(m: u32, i: u32, t: u32, start: u32) -> bool
+    requires { ⌜ i < 20 ⌝ }
+    ensures { λ ok. ⌜ ok ≡ ageFits m i t start ⌝ }
+{
+    let short = signature::prefix_length(m, i) as u64;
+    let long = signature::prefix_length(m, i + 1) as u64;
+    if (t as u64) < (start as u64) + short {
+        return false;
+    }
+    (t as u64) < (start as u64) + long
+}
+
+impl Stage {
+    fn none() -> Stage
+        ensures { λ s. ⌜ s ≡ noStage ⌝ }
+    {
+        let origin = Mark::origin();
+        Stage {
+            held: 0,
+            first: origin,
+            last: origin,
+            step: Gap::none(),
+        }
+    }
+
+    // A stage that lists one start.
+    fn alone(mark: Mark) -> Stage
+        ensures { λ s. ⌜ s ≡ alone mark ⌝ }
+    {
+        Stage {
+            held: 1,
+            first: mark,
+            last: mark,
+            step: Gap::none(),
+        }
+    }
+
+    // Held 0: the rest is 0.
+    fn none_fits(self) -> bool
+        ensures { λ ok. ⌜ ok ≡ noneFits self ⌝ }
+    {
+        let first = self.first;
+        let last = self.last;
+        let step = self.step;
+        let origin = Mark::origin();
+        if !first.equals(origin) {
+            return false;
+        }
+        if !last.equals(origin) {
+            return false;
+        }
+        step.equals(Gap::none())
+    }
+
+    // Held 1: the last is the first, and there is no step.
+    fn one_fits(self, m: u32, i: u32, t: u32) -> bool
+        requires { ⌜ i < 20 ⌝ }
+        ensures { λ ok. ⌜ ok ≡ oneFits m i t self ⌝ }
+    {
+        let first = self.first;
+        let last = self.last;
+        let step = self.step;
+        if !first.print.fits() {
+            return false;
+        }
+        if !age_fits(m, i, t, first.at) {
+            return false;
+        }
+        if !last.equals(first) {
+            return false;
+        }
+        step.equals(Gap::none())
+    }
+
+    // Held 2 or more: a step, which leads from the first to the last.
+    fn many_fit(self, m: u32, i: u32, t: u32) -> bool
+        requires { ⌜ (i < 20) × (1 ≤ self .held) ⌝ }
+        ensures { λ ok. ⌜ ok ≡ manyFit m i t self ⌝ }
+    {
+        if !self.prints_fit() {
+            return false;
+        }
+        if !age_fits(m, i, t, self.first.at) {
+            return false;
+        }
+        if !age_fits(m, i, t, self.last.at) {
+            return false;
+        }
+        if self.step.length == 0 {
+            return false;
+        }
+        let reach = ((self.held - 1) as u64) * (self.step.length as u64);
+        (self.last.at as u64) == (self.first.at as u64) + reach
+    }
+
+    // Whether the stage's three fingerprints are below P.
+    fn prints_fit(self) -> bool
+        ensures { λ ok. ⌜ ok ≡ stagePrintsFit self ⌝ }
+    {
+        let first = self.first.print;
+        let last = self.last.print;
+        let step = self.step.print;
+        if !first.fits() {
+            return false;
+        }
+        if !last.fits() {
+            return false;
+        }
+        step.fits()
+    }
+
+    // Whether the stage is no misfit as stage i of k, at t.
+    fn fits(self, m: u32, k: u32, i: u32, t: u32) -> bool
+        requires { ⌜ (i < 20) × (k ≡ levels m) ⌝ }
+        ensures { λ ok. ⌜ ok ≡ stageFits m i t self ⌝ }
+    {
+        if self.held == 0 {
+            return self.none_fits();
+        }
+        if k <= i {
+            return false;
+        }
+        if self.held == 1 {
+            return self.one_fits(m, i, t);
+        }
+        self.many_fit(m, i, t)
+    }
+
+    // The stage without its first start.
+    fn take_off(self, key: Key) -> Stage
+        requires { ⌜ (1 ≤ self .held) × (2 ≤ self .held → self .first .at + self .step .length < 4294967296) ⌝ }
+        ensures { λ s. ⌜ s ≡ takenOff key self ⌝ }
+    {
+        if self.held == 1 {
+            return Stage::none();
+        }
+        let step = self.step;
+        let first = self.first.forward(key, step);
+        if self.held == 2 {
+            return Stage::alone(first);
+        }
+        let last = self.last;
+        Stage {
+            held: self.held - 1,
+            first,
+            last,
+            step,
+        }
+    }
+}
+
+fn stages_fit(stages: [Stage; 20], m: u32, t: u32) -> bool
+    ensures { λ ok. ⌜ ok ≡ stagesFit m t stages ⌝ }
+{
+    let k = signature::levels(m);
+    let mut i: u32 = 0;
+    while i < 20 {
+        let stage = stages[i as usize];
+        if !stage.fits(m, k, i, t) {
+            return false;
+        }
+        i = i + 1;
+    }
+    true
+}
+
+impl Matcher {
+    // Whether the watch is no misfit.
+    pub fn fits(self) -> bool
+        ensures { λ ok. ⌜ ok ≡ matcherFits self ⌝ }
+    {
+        let signature = self.signature;
+        let now = self.now;
+        if !signature.fits() {
+            return false;
+        }
+        if !now.print.fits() {
+            return false;
+        }
+        if !signature::running_fits(now.at, now.print) {
+            return false;
+        }
+        let stages = self.stages;
+        stages_fit(stages, signature.length, now.at)
+    }
+
+    // A watch that has taken no byte.
+    fn blank(signature: Signature) -> Matcher
+        ensures { λ w. ⌜ w ≡ blank signature ⌝ }
+    {
+        let nothing = Stage::none();
+        Matcher {
+            signature,
+            now: Mark::origin(),
+            stages: [nothing; 20],
+        }
+    }
+
+    // A fresh watch of a card. Refusal: 10 misfit.
+    pub fn start(signature: Signature) -> Started
+        ensures verdict { λ r. ⌜ number (r .verdict) ≡ freshRefusal signature ⌝ }
+        ensures matcher { λ r. ⌜ r .matcher ≡ fresh signature ⌝ }
+    {
+        if !signature.fits() {
+            return Started {
+                verdict: Verdict::Refused(Refusal::Misfit),
+                matcher: Matcher::blank(Signature::none()),
+            };
+        }
+        Started {
+            verdict: Verdict::Accepted,
+            matcher: Matcher::blank(signature),
+        }
+    }
 }

@@ -354,7 +354,7 @@ impl Builder {
 }
 
 // A running print is 0 at 0 bytes.
-fn running_fits(taken: u32, print: Fingerprint) -> bool
+pub fn running_fits(taken: u32, print: Fingerprint) -> bool
     ensures { λ ok. ⌜ ok ≡ cond (eqb taken 0) (same print empty) true ⌝ }
 {
     if taken == 0 {
