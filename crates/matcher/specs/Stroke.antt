@@ -18,6 +18,8 @@ use Rattle.matcher.specs.declared.Ring.{Ring}
 use Rattle.matcher.specs.declared.Ring.the-variants.{Silent, At}
 use Rattle.matcher.specs.declared.Progression.{Progression}
 use Rattle.matcher.specs.declared.Answer.{Answer}
+use Rattle.matcher.specs.declared.Aside.{Aside}
+use Rattle.matcher.specs.declared.Aside.the-variants.{Nothing, Set}
 pub use Rattle.matcher.specs.declared.Round.{Round}
 pub use Rattle.matcher.specs.declared.Walk.{Walk}
 use Rattle.matcher.specs.Matcher.{maxTaken, stageCount, noGap, noStage, sameGap, matcherFits}
@@ -59,6 +61,9 @@ setsAside key s new = ltb 1 (s .held) && not (sameGap (gapTo key (s .last) new) 
 abbrev pub allButLast : Stage → Progression
 allButLast s = record { first = s .first .at; step = s .step .length; many = s .held - 1 }
 
+abbrev pub asideOf : Key → Stage → Mark → Aside
+asideOf key s new = cond (setsAside key s new) (Set (allButLast s)) Nothing
+
 abbrev pub noProgression : Progression
 noProgression = record { first = 0; step = 0; many = 0 }
 
@@ -73,21 +78,27 @@ abbrev pub withSet : Progression → Answer → Answer
 withSet x a =
     record { ring = a .ring; sets = set (a .sets) (a .asides) x; asides = suc (a .asides); comparisons = a .comparisons }
 
+abbrev pub withAside : Aside → Answer → Answer
+withAside Nothing a = a
+withAside (Set x) a = withSet x a
+
 abbrev pub compared : Answer → Answer
 compared a =
     record { ring = a .ring; sets = a .sets; asides = a .asides; comparisons = suc (a .comparisons) }
 
 -- "it is rung if i = k, else it enters stage i": the start whose block just matched P_i.
-unfoldable pub promoted : Round → ℕ → Mark → Walk → Walk
-promoted c i start w =
+unfoldable pub promotedUnder : Key → ℕ → ℕ → Mark → Walk → Walk
+promotedUnder key k i start w =
     let s : Stage = getD (w .stages) i noStage in
-    let key : Key = c .signature .key in
-    cond (eqb i (levels (c .signature .length)))
+    cond (eqb i k)
     (record { stages = w .stages; answer = ringing (start .at) (w .answer) })
     (record {
       stages = set (w .stages) i (entered key s start);
       answer = cond (setsAside key s start) (withSet (allButLast s) (w .answer)) (w .answer);
     })
+
+abbrev pub promoted : Round → ℕ → Mark → Walk → Walk
+promoted c i start w = promotedUnder (c .signature .key) (levels (c .signature .length)) i start w
 
 -- "the last |P_i| bytes are compared by fingerprint with P_i": those from the start to now.
 abbrev pub matches : Round → ℕ → Mark → Bool
@@ -99,8 +110,11 @@ tried c i start w =
     cond (matches c i start) (promoted c i start counted) counted
 
 -- "If stage i lists the start t - |P_(i+1)|": in a watch that is no misfit only its first can be that.
+abbrev pub ripeAt : ℕ → ℕ → ℕ → Stage → Bool
+ripeAt m i t s = not (eqb (s .held) 0) && eqb (s .first .at + prefixLength m (suc i)) t
+
 abbrev pub ripe : Round → ℕ → Stage → Bool
-ripe c i s = not (eqb (s .held) 0) && eqb (s .first .at + prefixLength (c .signature .length) (suc i)) (c .now .at)
+ripe c i s = ripeAt (c .signature .length) i (c .now .at) s
 
 unfoldable pub visited : Round → ℕ → Walk → Walk
 visited c i w =
@@ -118,11 +132,15 @@ descended c (suc i) w = descended c i (visited c i w)
 abbrev pub nextMark : Key → Mark → ℕ → Mark
 nextMark key now byte = record { at = suc (now .at); print = pushed key (now .print) byte }
 
--- "At each byte, t rises by one. Then": the stages, and "start t-1 is compared with P_0".
-unfoldable pub walked : Matcher → ℕ → Walk
+-- "At each byte": the stages, and then "start t-1 is compared with P_0".
+unfoldable pub walkedFrom : Round → Mark → List Stage → Walk
+walkedFrom c start stages =
+    tried c 0 start (descended c (levels (c .signature .length)) (record { stages = stages; answer = noAnswer }))
+
+-- "t rises by one. Then" the walk.
+abbrev pub walked : Matcher → ℕ → Walk
 walked w byte =
-    let c : Round = record { signature = w .signature; now = nextMark (w .signature .key) (w .now) byte } in
-    tried c 0 (w .now) (descended c (levels (w .signature .length)) (record { stages = w .stages; answer = noAnswer }))
+    walkedFrom (record { signature = w .signature; now = nextMark (w .signature .key) (w .now) byte }) (w .now) (w .stages)
 
 -- The stroke's refusals: 10 misfit, 6 spent.
 abbrev pub strokeRefusal : Matcher → ℕ

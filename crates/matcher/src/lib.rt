@@ -4,16 +4,20 @@ ghost use mathlib.Core.Bool.{true, cond, not, _&&_};
 ghost use Prim.Native.Nat.{_+_, _-_, _*_, _≤_, _<_, suc};
 ghost use lib.Dec.{leb, ltb, eqb};
 ghost use lib.ListN.{getD};
+ghost use Rattle.fingerprint.specs.Fingerprint.{same};
 ghost use Rattle.ladder.specs.Prefix.{levels, prefixLength};
 ghost use Rattle.refusal.specs.Number.{number};
 ghost use Rattle.signature.specs.Signature.{signatureFits};
 ghost use Rattle.matcher.specs.Matcher.{origin, noGap, noStage, sameMark, sameGap, ageFits, noneFits, oneFits, manyFit, stagePrintsFit, stageFits, stagesFit, matcherFits, freshRefusal, fresh, blank};
-ghost use Rattle.matcher.specs.Stroke.{gapTo, forward, alone, takenOff, entered, setsAside, allButLast, noProgression, noAnswer, ripe, matches, descended, tried, nextMark, walked, strokeRefusal, strokeAnswer, afterStroke};
+ghost use Rattle.matcher.specs.Stroke.{gapTo, forward, alone, takenOff, entered, asideOf, noProgression, noAnswer, ringing, withAside, ripeAt, promotedUnder, walkedFrom, nextMark, walked, strokeRefusal, strokeAnswer, afterStroke};
 use fingerprint::Fingerprint;
 use fingerprint::Key;
 use refusal::Refusal;
 use refusal::Verdict;
 use signature::Signature;
+
+// The most bytes that a watch takes.
+pub const MAX_TAKEN: u32 = 4294967295;
 
 // A place in the stream, with the fingerprint of all bytes before it: a start and its F, or t and F_t.
 pub struct Mark {
@@ -381,6 +385,256 @@ impl Matcher {
         Started {
             verdict: Verdict::Accepted,
             matcher: Matcher::blank(signature),
+        }
+    }
+}
+
+// What entering a stage sets aside.
+pub enum Aside {
+    Nothing,
+    Set(Progression),
+}
+
+// What entering makes of a stage: the stage then, and the set set aside.
+pub struct Entry {
+    pub stage: Stage,
+    pub aside: Aside,
+}
+
+impl Stage {
+    // The stage with a newcomer behind its last start.
+    fn enter(self, key: Key, new: Mark) -> Entry
+        requires { ⌜ self .held + 1 < 4294967296 ⌝ }
+        ensures stage { λ r. ⌜ r .stage ≡ entered key self new ⌝ }
+        ensures aside { λ r. ⌜ r .aside ≡ asideOf key self new ⌝ }
+    {
+        if self.held == 0 {
+            return Entry {
+                stage: Stage::alone(new),
+                aside: Aside::Nothing,
+            };
+        }
+        let last = self.last;
+        let step = self.step;
+        let first = self.first;
+        let gap = last.gap_to(key, new);
+        let pair = Stage {
+            held: 2,
+            first: last,
+            last: new,
+            step: gap,
+        };
+        if self.held == 1 {
+            return Entry {
+                stage: pair,
+                aside: Aside::Nothing,
+            };
+        }
+        if gap.equals(step) {
+            return Entry {
+                stage: Stage {
+                    held: self.held + 1,
+                    first,
+                    last: new,
+                    step,
+                },
+                aside: Aside::Nothing,
+            };
+        }
+        Entry {
+            stage: pair,
+            aside: Aside::Set(Progression {
+                first: first.at,
+                step: step.length,
+                many: self.held - 1,
+            }),
+        }
+    }
+
+    // Whether the stage's first start is t - |P_(i+1)|.
+    fn is_ripe(self, m: u32, i: u32, t: u32) -> bool
+        requires { ⌜ i < 20 ⌝ }
+        ensures { λ ok. ⌜ ok ≡ ripeAt m i t self ⌝ }
+    {
+        if self.held == 0 {
+            return false;
+        }
+        let length = signature::prefix_length(m, i + 1);
+        (self.first.at as u64) + (length as u64) == (t as u64)
+    }
+}
+
+// Whether the block from a start to now has the fingerprint of P_i.
+fn matches(key: Key, start: Mark, now: Mark, print: Fingerprint) -> bool
+    ensures { λ ok. ⌜ ok ≡ same (gapTo key start now .print) print ⌝ }
+{
+    let gap = start.gap_to(key, now);
+    let block = gap.print;
+    block.equals(print)
+}
+
+impl Progression {
+    fn none() -> Progression
+        ensures { λ p. ⌜ p ≡ noProgression ⌝ }
+    {
+        Progression {
+            first: 0,
+            step: 0,
+            many: 0,
+        }
+    }
+}
+
+impl Answer {
+    // The answer before anything was found, and where a byte is refused.
+    pub fn none() -> Answer
+        ensures { λ a. ⌜ a ≡ noAnswer ⌝ }
+    {
+        let nothing = Progression::none();
+        Answer {
+            ring: Ring::Silent,
+            sets: [nothing; 20],
+            asides: 0,
+            comparisons: 0,
+        }
+    }
+
+    // The answer with what entering set aside.
+    fn with(self, aside: Aside) -> Answer
+        requires { ⌜ self .asides < 20 ⌝ }
+        ensures { λ a. ⌜ a ≡ withAside aside self ⌝ }
+    {
+        if let Aside::Set(set) = aside {
+            let mut a = self;
+            let n = a.asides;
+            a.sets[n as usize] = set;
+            a.asides = n + 1;
+            return a;
+        }
+        self
+    }
+
+    fn with_ring(self, start: u32) -> Answer
+        ensures { λ a. ⌜ a ≡ ringing start self ⌝ }
+    {
+        Answer {
+            ring: Ring::At(start),
+            ..self
+        }
+    }
+}
+
+// A start whose block matched P_i is rung if i = k, else it enters stage i.
+fn promote(key: Key, k: u32, i: u32, start: Mark, w: Walk) -> Walk
+    requires { ⌜ (i < 20 → (getD (w .stages) i noStage .held + 1 < 4294967296) × (w .answer .asides < 20)) × (k ≤ 20) × (i ≤ k) ⌝ }
+    ensures { λ r. ⌜ r ≡ promotedUnder key k i start w ⌝ }
+{
+    let answer = w.answer;
+    if i == k {
+        let stages = w.stages;
+        return Walk {
+            stages,
+            answer: answer.with_ring(start.at),
+        };
+    }
+    let mut stages = w.stages;
+    let s = stages[i as usize];
+    let e = s.enter(key, start);
+    let stage = e.stage;
+    let aside = e.aside;
+    stages[i as usize] = stage;
+    Walk {
+        stages,
+        answer: answer.with(aside),
+    }
+}
+
+// One byte's walk: the stages from the highest down, and then the start before the byte, which is compared with P_0.
+fn climb(c: Round, start: Mark, before: [Stage; 20]) -> Walk
+    requires { ⌜ (1 ≤ c .signature .length) × (c .signature .length ≤ 1048576) × (stagesFit (c .signature .length) (c .now .at - 1) before ≡ true) ⌝ }
+    ensures { λ r. ⌜ r ≡ walkedFrom c start before ⌝ }
+{
+    let m = c.signature.length;
+    let key = c.signature.key;
+    let prints = c.signature.prints;
+    let now = c.now;
+    let k = signature::levels(m);
+    let mut w = Walk {
+        stages: before,
+        answer: Answer::none(),
+    };
+    let mut i = k;
+    while 0 < i {
+        i = i - 1;
+        let s = w.stages[i as usize];
+        if s.is_ripe(m, i, now.at) {
+            let first = s.first;
+            let rest = s.take_off(key);
+            w.stages[i as usize] = rest;
+            w.answer.comparisons = w.answer.comparisons + 1;
+            let print = prints[(i + 1) as usize];
+            if matches(key, first, now, print) {
+                w = promote(key, k, i + 1, first, w);
+            }
+        }
+    }
+    w.answer.comparisons = w.answer.comparisons + 1;
+    let print = prints[0];
+    if matches(key, start, now, print) {
+        w = promote(key, k, 0, start, w);
+    }
+    w
+}
+
+impl Mark {
+    // The mark behind one byte more.
+    fn push(self, key: Key, byte: u8) -> Mark
+        requires { ⌜ self .at < 4294967295 ⌝ }
+        ensures { λ a. ⌜ a ≡ nextMark key self byte ⌝ }
+    {
+        Mark {
+            at: self.at + 1,
+            print: self.print.push(key, byte),
+        }
+    }
+}
+
+impl Matcher {
+    // Takes one byte of the stream. Refusals: 10 misfit, 6 spent.
+    pub fn stroke(self, byte: u8) -> Stroke
+        ensures verdict { λ r. ⌜ number (r .verdict) ≡ strokeRefusal self ⌝ }
+        ensures answer { λ r. ⌜ r .answer ≡ strokeAnswer self byte ⌝ }
+        ensures matcher { λ r. ⌜ r .matcher ≡ afterStroke self byte ⌝ }
+    {
+        if !self.fits() {
+            return Stroke {
+                verdict: Verdict::Refused(Refusal::Misfit),
+                answer: Answer::none(),
+                matcher: self,
+            };
+        }
+        let start = self.now;
+        if MAX_TAKEN <= start.at {
+            return Stroke {
+                verdict: Verdict::Refused(Refusal::Spent),
+                answer: Answer::none(),
+                matcher: self,
+            };
+        }
+        let signature = self.signature;
+        let before = self.stages;
+        let now = start.push(signature.key, byte);
+        let w = climb(Round { signature, now }, start, before);
+        let stages = w.stages;
+        let answer = w.answer;
+        Stroke {
+            verdict: Verdict::Accepted,
+            answer,
+            matcher: Matcher {
+                signature,
+                now,
+                stages,
+            },
         }
     }
 }

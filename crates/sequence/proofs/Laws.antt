@@ -4,11 +4,11 @@ use Prim.Native.Nat.{ℕ, zero, suc, _+_, _≤_, _<_}
 use mathlib.Core.Path.{_≡_, refl, sym, _∙_, ap, subst}
 use mathlib.Core.Logic.{⊎-elim}
 use mathlib.Core.Bool.{Bool, true, false, _&&_}
-use mathlib.Core.List.{List, [], _∷_, _++_}
+use mathlib.Core.List.{List, [], _∷_, _++_, map}
 use native.Mathlib.Nat.{not-suc-le-zero, eq-or-lt-of-le, le-of-suc-le-suc, le-refl}
 use native.Mathlib.Numerals.{add-one}
 use native.Mathlib.Omega.{arith}
-use lib.ListN.{length, take, set, getD, length-append, length-set, List·getD-append}
+use lib.ListN.{length, take, set, getD, length-append, length-map, List·getD-append}
 use lib.Seq.{take-suc-set, take-all, getD-at, ext-getD}
 use Rattle.sequence.specs.Sequence.{every, tabulate}
 
@@ -53,6 +53,10 @@ every-fails test n i l f = go (every test n) refl
     go : (b : Bool) → every test n ≡ b → every test n ≡ false
     go true e = let t : test i ≡ true = every-at test n e i l in cc
     go false e = e
+
+-- the length of an array of structs, which a function's record gives by its elements' values
+pub counted-elements : {A B : Type 0} (f : A → B) (l : List A) (n : ℕ) → length (map f l) ≡ n → length l ≡ n
+counted-elements f l n e = sym (length-map l f) ∙ e
 
 module _ {A : Type 0} (f : ℕ → A) where
   pub length-tabulate : (n : ℕ) → length (tabulate f n) ≡ n

@@ -2,7 +2,7 @@
 use borrow.Author.Needs.{needs}
 use mathlib.Core.Path.{_≡_, sym, _∙_}
 use Prim.Native.Nat.{_-_, _≤_}
-use mathlib.Core.Bool.{true, false}
+use mathlib.Core.Bool.{true}
 use borrow.Author.Tests.{not-true, not-false}
 use Rattle.sequence.specs.Sequence.{every}
 use Rattle.sequence.proofs.Laws.{every-none, every-more, every-fails}
@@ -10,10 +10,6 @@ use Rattle.matcher.specs.Matcher.{fitsAt}
 use native.Mathlib.Omega.{arith}
 use Rattle.matcher.proofs.stages_fit.Statement.{statement}
 use Rattle.matcher.proofs.stages_fit.Tie as tie
-use Rattle.matcher.proofs.stages_fit.Reads as reads
-use Rattle.matcher.proofs.stages_fit.Lts as lts
-use Rattle.matcher.proofs.Stage.fits.Reads as fits-reads
-use Rattle.signature.proofs.levels.Reads as levels-reads
 
 abbrev Inv-loop : tie.InvT-loop
 Inv-loop m t stages k i₀ i = (i ≤ 20) × (every (fitsAt m t stages) i ≡ true)
@@ -21,47 +17,36 @@ Inv-loop m t stages k i₀ i = (i ≤ 20) × (every (fitsAt m t stages) i ≡ tr
 abbrev μ-loop : tie.MeasureT-loop
 μ-loop m t stages k i₀ i = 20 - i
 
--- src/lib.rt:326:9
 levels-requires : tie.Need-levels-requires Inv-loop μ-loop
 levels-requires c κs = search needs
 
--- src/lib.rt:328:5
 loop-holds : tie.Need-loop-holds Inv-loop μ-loop
 loop-holds c = (omega arith, every-none _)
 
--- src/lib.rt:329:28
 cast-stage : tie.Need-cast-stage Inv-loop μ-loop
 cast-stage c = search needs
 
--- src/lib.rt:329:21
 mul-stage : tie.Need-mul-stage Inv-loop μ-loop
 mul-stage c = search needs
 
--- src/lib.rt:329:21
 array-copy-out-stage : tie.Need-array-copy-out-stage Inv-loop μ-loop
 array-copy-out-stage c = search needs
 
--- src/lib.rt:330:13
 fits-requires : tie.Need-fits-requires Inv-loop μ-loop
 fits-requires c κs = (omega arith, c .before .before .before .levels .ensures)
 
--- src/lib.rt:331:13
 returns : tie.Need-returns Inv-loop μ-loop
 returns c = sym (every-fails (fitsAt (c .before .before .before .before .before .before .args .m) (c .before .before .before .before .before .before .args .t) (c .before .before .before .before .before .before .args .t1)) 20 (c .before .before .before .before .loop .i) (omega arith) (sym (c .before .fits2 .ensures) ∙ not-true _ (c .if1 .taken)))
 
--- src/lib.rt:333:13
 add-i : tie.Need-add-i Inv-loop μ-loop
 add-i c = search needs
 
--- src/lib.rt:328:5
 loop-less : tie.Need-loop-less Inv-loop μ-loop
 loop-less c = search needs
 
--- src/lib.rt:328:5
 loop-again : tie.Need-loop-again Inv-loop μ-loop
 loop-again c = (omega arith, every-more (fitsAt (c .before .before .before .before .before .before .args .m) (c .before .before .before .before .before .before .args .t) (c .before .before .before .before .before .before .args .t1)) (c .before .before .before .before .loop .i) (c .before .before .before .before .loop .inv .1) (sym (c .before .fits2 .ensures) ∙ not-false _ (c .if1 .left)))
 
--- src/lib.rt:323:1
 returns-2 : tie.Need-returns-2 Inv-loop μ-loop
 returns-2 c =
     let end : c .before .loop .i ≡ 20 = omega arith in

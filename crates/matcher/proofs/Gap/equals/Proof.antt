@@ -3,19 +3,13 @@ use borrow.Author.Needs.{needs}
 use borrow.Author.Tests.{eq-eqb, ne-eqb}
 use Rattle.matcher.proofs.Gap.equals.Statement.{statement}
 use Rattle.matcher.proofs.Gap.equals.Tie as tie
-use Rattle.matcher.proofs.Gap.equals.Reads as reads
-use Rattle.matcher.proofs.Gap.equals.Lts as lts
-use Rattle.fingerprint.proofs.Fingerprint.equals.Reads as equals-reads
 
--- src/lib.rt:165:13
 equals-requires : tie.Need-equals-requires
 equals-requires c κs = search needs
 
--- src/lib.rt:165:13
 returns : tie.Need-returns
 returns c = rw (eq-eqb _ _ (c .before .before .before .if1 .taken)) (c .equals .ensures)
 
--- src/lib.rt:159:5
 returns-2 : tie.Need-returns-2
 returns-2 c = simp (ne-eqb _ _ (c .if1 .left))
 

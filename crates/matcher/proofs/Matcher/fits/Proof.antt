@@ -4,45 +4,31 @@ use borrow.Author.Tests.{not-true, not-false}
 use Rattle.matcher.specs.Matcher.{matcherFits}
 use Rattle.matcher.proofs.Matcher.fits.Statement.{statement}
 use Rattle.matcher.proofs.Matcher.fits.Tie as tie
-use Rattle.matcher.proofs.Matcher.fits.Reads as reads
-use Rattle.matcher.proofs.Matcher.fits.Lts as lts
-use Rattle.fingerprint.proofs.Fingerprint.fits.Reads as Fingerprint-fits-reads
-use Rattle.matcher.proofs.stages_fit.Reads as stages-fit-reads
-use Rattle.signature.proofs.Signature.fits.Reads as Signature-fits-reads
-use Rattle.signature.proofs.running_fits.Reads as running-fits-reads
 
--- src/lib.rt:345:13
 fits-requires : tie.Need-fits-requires
 fits-requires c κs = search needs
 
--- src/lib.rt:346:13
 returns : tie.Need-returns
 unfolding matcherFits
 returns c = rw (← c .before .fits2 .ensures, not-true (c .before .fits2 .result) (c .if1 .taken))
 
--- src/lib.rt:348:13
 fits-requires-2 : tie.Need-fits-requires-2
 fits-requires-2 c κs = search needs
 
--- src/lib.rt:349:13
 returns-2 : tie.Need-returns-2
 unfolding matcherFits
 returns-2 c = rw (← c .before .before .before .fits2 .ensures, not-false (c .before .before .before .fits2 .result) (c .before .before .if1 .left), ← c .before .fits3 .ensures, not-true (c .before .fits3 .result) (c .if2 .taken))
 
--- src/lib.rt:351:13
 running-fits-requires : tie.Need-running-fits-requires
 running-fits-requires c κs = search needs
 
--- src/lib.rt:352:13
 returns-3 : tie.Need-returns-3
 unfolding matcherFits
 returns-3 c = rw (← c .before .before .before .before .before .fits2 .ensures, not-false (c .before .before .before .before .before .fits2 .result) (c .before .before .before .before .if1 .left), ← c .before .before .before .fits3 .ensures, not-false (c .before .before .before .fits3 .result) (c .before .before .if2 .left), ← c .before .running-fits .ensures, not-true (c .before .running-fits .result) (c .if3 .taken))
 
--- src/lib.rt:355:9
 stages-fit-requires : tie.Need-stages-fit-requires
 stages-fit-requires c κs = search needs
 
--- src/lib.rt:340:5
 returns-4 : tie.Need-returns-4
 unfolding matcherFits
 returns-4 c = rw (← c .before .before .before .before .before .before .before .fits2 .ensures, not-false (c .before .before .before .before .before .before .before .fits2 .result) (c .before .before .before .before .before .before .if1 .left), ← c .before .before .before .before .before .fits3 .ensures, not-false (c .before .before .before .before .before .fits3 .result) (c .before .before .before .before .if2 .left), ← c .before .before .before .running-fits .ensures, not-false (c .before .before .before .running-fits .result) (c .before .before .if3 .left)) (c .stages-fit .ensures)

@@ -4,40 +4,28 @@ use borrow.Author.Tests.{eq-eqb, ne-eqb, lt-ltb, le-ltb}
 use Rattle.matcher.specs.Matcher.{stageFits}
 use Rattle.matcher.proofs.Stage.fits.Statement.{statement}
 use Rattle.matcher.proofs.Stage.fits.Tie as tie
-use Rattle.matcher.proofs.Stage.fits.Reads as reads
-use Rattle.matcher.proofs.Stage.fits.Lts as lts
-use Rattle.matcher.proofs.Stage.many_fit.Reads as many-fit-reads
-use Rattle.matcher.proofs.Stage.none_fits.Reads as none-fits-reads
-use Rattle.matcher.proofs.Stage.one_fits.Reads as one-fits-reads
 
--- src/lib.rt:289:13
 none-fits-requires : tie.Need-none-fits-requires
 none-fits-requires c κs = search needs
 
--- src/lib.rt:289:13
 returns : tie.Need-returns
 unfolding stageFits
 returns c = rw (eq-eqb _ _ (c .before .if1 .taken)) (c .none-fits .ensures)
 
--- src/lib.rt:292:13
 returns-2 : tie.Need-returns-2
 unfolding stageFits
 returns-2 c = rw (ne-eqb _ _ (c .before .if1 .left), ← c .before .before .before .pre .1, le-ltb _ _ (c .if2 .taken))
 
--- src/lib.rt:295:13
 one-fits-requires : tie.Need-one-fits-requires
 one-fits-requires c κs = search needs
 
--- src/lib.rt:295:13
 returns-3 : tie.Need-returns-3
 unfolding stageFits
 returns-3 c = rw (ne-eqb _ _ (c .before .before .before .before .if1 .left), ← c .before .before .before .before .before .before .pre .1, lt-ltb _ _ (c .before .before .before .if2 .left), eq-eqb _ _ (c .before .if3 .taken)) (c .one-fits .ensures)
 
--- src/lib.rt:297:9
 many-fit-requires : tie.Need-many-fit-requires
 many-fit-requires c κs = search needs
 
--- src/lib.rt:284:5
 returns-4 : tie.Need-returns-4
 unfolding stageFits
 returns-4 c = rw (ne-eqb _ _ (c .before .before .before .before .if1 .left), ← c .before .before .before .before .before .before .pre .1, lt-ltb _ _ (c .before .before .before .if2 .left), ne-eqb _ _ (c .before .if3 .left)) (c .many-fit .ensures)

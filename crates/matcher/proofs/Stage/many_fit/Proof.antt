@@ -7,76 +7,57 @@ use Rattle.matcher.specs.Matcher.{manyFit}
 use Rattle.fingerprint.proofs.Modular.{product-at-most}
 use Rattle.matcher.proofs.Stage.many_fit.Statement.{statement}
 use Rattle.matcher.proofs.Stage.many_fit.Tie as tie
-use Rattle.matcher.proofs.Stage.many_fit.Reads as reads
-use Rattle.matcher.proofs.Stage.many_fit.Lts as lts
-use Rattle.matcher.proofs.Stage.prints_fit.Reads as prints-fit-reads
-use Rattle.matcher.proofs.age_fits.Reads as age-fits-reads
 
--- src/lib.rt:251:13
 prints-fit-requires : tie.Need-prints-fit-requires
 prints-fit-requires c κs = search needs
 
--- src/lib.rt:252:13
 returns : tie.Need-returns
 unfolding manyFit
 returns c = rw (← c .before .prints-fit .ensures, not-true (c .before .prints-fit .result) (c .if1 .taken))
 
--- src/lib.rt:254:13
 age-fits-requires : tie.Need-age-fits-requires
 age-fits-requires c κs = search needs
 
--- src/lib.rt:255:13
 returns-2 : tie.Need-returns-2
 unfolding manyFit
 returns-2 c = rw (← c .before .before .before .prints-fit .ensures, not-false (c .before .before .before .prints-fit .result) (c .before .before .if1 .left), ← c .before .age-fits .ensures, not-true (c .before .age-fits .result) (c .if2 .taken))
 
--- src/lib.rt:257:13
 age-fits-requires-2 : tie.Need-age-fits-requires-2
 age-fits-requires-2 c κs = search needs
 
--- src/lib.rt:258:13
 returns-3 : tie.Need-returns-3
 unfolding manyFit
 returns-3 c = rw (← c .before .before .before .before .before .prints-fit .ensures, not-false (c .before .before .before .before .before .prints-fit .result) (c .before .before .before .before .if1 .left), ← c .before .before .before .age-fits .ensures, not-false (c .before .before .before .age-fits .result) (c .before .before .if2 .left), ← c .before .age-fits2 .ensures, not-true (c .before .age-fits2 .result) (c .if3 .taken))
 
--- src/lib.rt:261:13
 returns-4 : tie.Need-returns-4
 unfolding manyFit
 returns-4 c = rw (← c .before .before .before .before .before .before .before .prints-fit .ensures, not-false (c .before .before .before .before .before .before .before .prints-fit .result) (c .before .before .before .before .before .before .if1 .left), ← c .before .before .before .before .before .age-fits .ensures, not-false (c .before .before .before .before .before .age-fits .result) (c .before .before .before .before .if2 .left), ← c .before .before .before .age-fits2 .ensures, not-false (c .before .before .before .age-fits2 .result) (c .before .before .if3 .left), eq-eqb _ _ (c .if4 .taken))
 
--- src/lib.rt:263:23
 sub-reach : tie.Need-sub-reach
 sub-reach c = search needs
 
--- src/lib.rt:263:22
 cast-reach : tie.Need-cast-reach
 cast-reach c = search needs
 
--- src/lib.rt:263:49
 cast-reach-2 : tie.Need-cast-reach-2
 cast-reach-2 c = search needs
 
--- src/lib.rt:263:21
 mul-reach : tie.Need-mul-reach
 mul-reach c =
     let s = c .before .before .before .before .before .before .before .before .before .before .args .self in
     omega (arith, product-at-most {a = s .held - 1} {b = s .step .length} 4294967294 4294967295 (omega arith) (omega arith))
 
--- src/lib.rt:264:10
 cast-result : tie.Need-cast-result
 cast-result c = search needs
 
--- src/lib.rt:264:35
 cast-result-2 : tie.Need-cast-result-2
 cast-result-2 c = search needs
 
--- src/lib.rt:264:34
 add-result : tie.Need-add-result
 add-result c =
     let s = c .before .before .before .before .before .before .before .before .before .before .before .before .args .self in
     omega (arith, product-at-most {a = s .held - 1} {b = s .step .length} 4294967294 4294967295 (omega arith) (omega arith))
 
--- src/lib.rt:247:5
 returns-5 : tie.Need-returns-5
 unfolding manyFit
 returns-5 c = rw (← c .before .before .before .before .before .before .before .before .before .before .before .prints-fit .ensures, not-false (c .before .before .before .before .before .before .before .before .before .before .before .prints-fit .result) (c .before .before .before .before .before .before .before .before .before .before .if1 .left), ← c .before .before .before .before .before .before .before .before .before .age-fits .ensures, not-false (c .before .before .before .before .before .before .before .before .before .age-fits .result) (c .before .before .before .before .before .before .before .before .if2 .left), ← c .before .before .before .before .before .before .before .age-fits2 .ensures, not-false (c .before .before .before .before .before .before .before .age-fits2 .result) (c .before .before .before .before .before .before .if3 .left), ne-eqb _ _ (c .before .before .before .before .if4 .left))

@@ -4,50 +4,34 @@ use borrow.Author.Tests.{not-true, not-false}
 use Rattle.matcher.specs.Matcher.{oneFits}
 use Rattle.matcher.proofs.Stage.one_fits.Statement.{statement}
 use Rattle.matcher.proofs.Stage.one_fits.Tie as tie
-use Rattle.matcher.proofs.Stage.one_fits.Reads as reads
-use Rattle.matcher.proofs.Stage.one_fits.Lts as lts
-use Rattle.fingerprint.proofs.Fingerprint.fits.Reads as fits-reads
-use Rattle.matcher.proofs.Gap.equals.Reads as Gap-equals-reads
-use Rattle.matcher.proofs.Gap.none.Reads as none-reads
-use Rattle.matcher.proofs.Mark.equals.Reads as Mark-equals-reads
-use Rattle.matcher.proofs.age_fits.Reads as age-fits-reads
 
--- src/lib.rt:234:13
 fits-requires : tie.Need-fits-requires
 fits-requires c κs = search needs
 
--- src/lib.rt:235:13
 returns : tie.Need-returns
 unfolding oneFits
 returns c = rw (← c .before .fits2 .ensures, not-true (c .before .fits2 .result) (c .if1 .taken))
 
--- src/lib.rt:237:13
 age-fits-requires : tie.Need-age-fits-requires
 age-fits-requires c κs = search needs
 
--- src/lib.rt:238:13
 returns-2 : tie.Need-returns-2
 unfolding oneFits
 returns-2 c = rw (← c .before .before .before .fits2 .ensures, not-false (c .before .before .before .fits2 .result) (c .before .before .if1 .left), ← c .before .age-fits .ensures, not-true (c .before .age-fits .result) (c .if2 .taken))
 
--- src/lib.rt:240:13
 equals-requires : tie.Need-equals-requires
 equals-requires c κs = search needs
 
--- src/lib.rt:241:13
 returns-3 : tie.Need-returns-3
 unfolding oneFits
 returns-3 c = rw (← c .before .before .before .before .before .fits2 .ensures, not-false (c .before .before .before .before .before .fits2 .result) (c .before .before .before .before .if1 .left), ← c .before .before .before .age-fits .ensures, not-false (c .before .before .before .age-fits .result) (c .before .before .if2 .left), ← c .before .equals .ensures, not-true (c .before .equals .result) (c .if3 .taken))
 
--- src/lib.rt:243:21
 none-requires : tie.Need-none-requires
 none-requires c κs = search needs
 
--- src/lib.rt:243:9
 equals-requires-2 : tie.Need-equals-requires-2
 equals-requires-2 c κs = search needs
 
--- src/lib.rt:227:5
 returns-4 : tie.Need-returns-4
 unfolding oneFits
 returns-4 c = rw (← c .before .before .before .before .before .before .before .fits2 .ensures, not-false (c .before .before .before .before .before .before .before .fits2 .result) (c .before .before .before .before .before .before .if1 .left), ← c .before .before .before .before .before .age-fits .ensures, not-false (c .before .before .before .before .before .age-fits .result) (c .before .before .before .before .if2 .left), ← c .before .before .before .equals .ensures, not-false (c .before .before .before .equals .result) (c .before .before .if3 .left)) (rw (c .before .none .ensures) at (c .equals2 .ensures))

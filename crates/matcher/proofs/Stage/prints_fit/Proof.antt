@@ -3,31 +3,22 @@ use borrow.Author.Needs.{needs}
 use borrow.Author.Tests.{not-true, not-false}
 use Rattle.matcher.proofs.Stage.prints_fit.Statement.{statement}
 use Rattle.matcher.proofs.Stage.prints_fit.Tie as tie
-use Rattle.matcher.proofs.Stage.prints_fit.Reads as reads
-use Rattle.matcher.proofs.Stage.prints_fit.Lts as lts
-use Rattle.fingerprint.proofs.Fingerprint.fits.Reads as fits-reads
 
--- src/lib.rt:274:13
 fits-requires : tie.Need-fits-requires
 fits-requires c κs = search needs
 
--- src/lib.rt:275:13
 returns : tie.Need-returns
 returns c = rw (← c .before .fits2 .ensures, not-true (c .before .fits2 .result) (c .if1 .taken))
 
--- src/lib.rt:277:13
 fits-requires-2 : tie.Need-fits-requires-2
 fits-requires-2 c κs = search needs
 
--- src/lib.rt:278:13
 returns-2 : tie.Need-returns-2
 returns-2 c = rw (← c .before .before .before .fits2 .ensures, not-false (c .before .before .before .fits2 .result) (c .before .before .if1 .left), ← c .before .fits3 .ensures, not-true (c .before .fits3 .result) (c .if2 .taken))
 
--- src/lib.rt:280:9
 fits-requires-3 : tie.Need-fits-requires-3
 fits-requires-3 c κs = search needs
 
--- src/lib.rt:268:5
 returns-3 : tie.Need-returns-3
 returns-3 c = rw (← c .before .before .before .before .fits2 .ensures, not-false (c .before .before .before .before .fits2 .result) (c .before .before .before .if1 .left), ← c .before .before .fits3 .ensures, not-false (c .before .before .fits3 .result) (c .before .if2 .left)) (c .fits4 .ensures)
 

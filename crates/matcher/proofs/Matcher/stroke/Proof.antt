@@ -1,0 +1,51 @@
+-- `matcher::Matcher::stroke` meets its contract: each `return` has the tests that lead to it.
+use borrow.Author.Needs.{needs}
+use mathlib.Core.Path.{refl, sym, _∙_}
+use borrow.Author.Tests.{not-true, not-false, lt-ltb, le-ltb}
+use native.Mathlib.Numerals.{sub-one}
+use Rattle.matcher.specs.Stroke.{strokeAnswer, afterStroke}
+use Rattle.matcher.proofs.Rounds.{ready}
+use Rattle.matcher.proofs.Matcher.stroke.Statement.{statement}
+use Rattle.matcher.proofs.Matcher.stroke.Tie as tie
+
+fits-requires : tie.Need-fits-requires
+fits-requires c κs = search needs
+
+none-requires : tie.Need-none-requires
+none-requires c κs = search needs
+
+returns : tie.Need-returns
+unfolding strokeAnswer afterStroke
+returns c = rw (← c .before .before .fits2 .ensures, not-true (c .before .before .fits2 .result) (c .before .if1 .taken)) (refl, (c .none .ensures, refl))
+
+none-requires-2 : tie.Need-none-requires-2
+none-requires-2 c κs = search needs
+
+returns-2 : tie.Need-returns-2
+unfolding strokeAnswer afterStroke
+returns-2 c = rw (← c .before .before .before .before .before .fits2 .ensures, not-false (c .before .before .before .before .before .fits2 .result) (c .before .before .before .before .if1 .left), le-ltb _ _ (c .before .if2 .taken)) (refl, (c .none2 .ensures, refl))
+
+push-requires : tie.Need-push-requires
+push-requires c κs = search needs
+
+climb-requires : tie.Need-climb-requires
+climb-requires c κs =
+    let q = ready (c .before .before .before .before .before .before .before .before .args .self) (sym (c .before .before .before .before .before .before .before .fits2 .ensures) ∙ not-false (c .before .before .before .before .before .before .before .fits2 .result) (c .before .before .before .before .before .before .if1 .left)) in
+    rw (c .push .ensures, sub-one) (q .low, q .high, q .stages)
+
+returns-3 : tie.Need-returns-3
+unfolding strokeAnswer afterStroke
+returns-3 c = rw (← c .before .before .before .before .before .before .before .before .before .before .fits2 .ensures, not-false (c .before .before .before .before .before .before .before .before .before .before .fits2 .result) (c .before .before .before .before .before .before .before .before .before .if1 .left), lt-ltb _ _ (c .before .before .before .before .before .before .if2 .left), c .before .before .climb .ensures, c .before .before .before .push .ensures) (refl, (refl, refl))
+
+pub stroke-spec : {M : Type 1} → statement M
+stroke-spec =
+    tie.close
+    (tie.spec
+    fits-requires
+    none-requires
+    returns
+    none-requires-2
+    returns-2
+    push-requires
+    climb-requires
+    returns-3)

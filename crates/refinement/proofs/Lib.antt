@@ -1,0 +1,10 @@
+pub mod Ceiling
+pub mod Keeps
+pub mod Sound
+pub mod StrokeFits
+pub mod Summary
+pub mod Follow
+pub mod Visits
+pub mod Card
+pub mod WatchFits
+pub mod Refines

@@ -1,0 +1,168 @@
+-- What a watch stores of a list of starts changes as the list does: when the first is taken off, when one enters, when the history grows.
+-- Assumes nothing.
+use Prim.Native.Nat.{ℕ, suc, _+_, _-_, _≤_}
+use mathlib.Core.Path.{_≡_, refl, sym, _∙_, ap, subst}
+use mathlib.Core.Logic.{inl, inr}
+use mathlib.Core.Bool.{cond}
+use mathlib.Core.List.{List, [], _∷_, _++_, map}
+use native.Mathlib.Omega.{arith}
+use lib.ListN.{length, take, drop, length-append, length-drop}
+use lib.Seq.{take-add, take-append-le, drop-append-le}
+use borrow.Author.Tests.{eqb-true, ne-eqb, lt-ltb}
+use Rattle.fingerprint.specs.declared.Key.{Key}
+use Rattle.fingerprint.specs.declared.Fingerprint.{Fingerprint}
+use Rattle.fingerprint.specs.Fingerprint.{fp, joined}
+use Rattle.fingerprint.proofs.Laws.{by-value, fp-join, fp-cut}
+use Rattle.ladder.specs.Prefix.{block}
+use Rattle.ladder.specs.Ladder as ladder
+use Rattle.ladder.proofs.Blocks.{block-length}
+use Rattle.ladder.proofs.Starts.{Has, Ascending, has-last}
+use Rattle.ladder.proofs.Even.{Even}
+use Rattle.ladder.proofs.Gaps.{Alike}
+use Rattle.matcher.specs.declared.Gap.{Gap}
+use Rattle.matcher.specs.Matcher.{sameGap}
+use Rattle.matcher.specs.Stroke.{alone, gapTo, forward, takenOff, entered, setsAside, allButLast}
+use Rattle.matcher.proofs.Cases.{by-test}
+use Rattle.matcher.proofs.Fit.{stage-by}
+use Rattle.refinement.specs.Refinement.{agreeUnder, markAt, summary, readSet}
+
+last-snoc : (x : ℕ) (xs : List ℕ) (z : ℕ) → ladder.lastOf x (xs ++ z ∷ []) ≡ z
+unfolding ladder.lastOf
+last-snoc x [] z = refl
+last-snoc x (y ∷ ys) z = last-snoc y ys z
+
+module _ (key : Key) (h : List ℕ) where
+  -- the block from one place to another, with its fingerprint
+  abbrev pub gapOf : ℕ → ℕ → Gap
+  gapOf a b = record { length = b - a; print = fp key (block h a (b - a)) }
+
+  take-block : (a b : ℕ) → a ≤ b → take b h ≡ take a h ++ block h a (b - a)
+  take-block a b l =
+      let e : b ≡ a + (b - a) = omega arith in
+      ap (λ (n : ℕ). take n h) e ∙ take-add a (b - a) h
+
+  -- The print of a gap comes from the prints at its ends.
+  pub gap-between : (a b : ℕ) → a ≤ b → b ≤ length h → gapTo key (markAt key h a) (markAt key h b) ≡ gapOf a b
+  gap-between a b l r =
+      let n : length (block h a (b - a)) ≡ b - a = block-length h a (b - a) (omega arith) in
+      ap (λ (f : Fingerprint). record { length = b - a; print = f })
+      (rw (take-block a b l) (rw n at (fp-cut key (take a h) (block h a (b - a)))))
+
+  -- The print at the end of a gap comes from that at its begin and that of the gap.
+  pub forward-to : (a b : ℕ) → a ≤ b → b ≤ length h → forward key (markAt key h a) (gapOf a b) ≡ markAt key h b
+  forward-to a b l r =
+      let n : length (block h a (b - a)) ≡ b - a = block-length h a (b - a) (omega arith) in
+      let at : a + (b - a) ≡ b = omega arith in
+      let print : joined key (fp key (take a h)) (fp key (block h a (b - a))) (b - a) ≡ fp key (take b h) =
+      rw (take-block a b l) (sym (rw n at (fp-join key (take a h) (block h a (b - a)))))
+      in
+      λ i. record { at = at i; print = print i }
+
+  pub summary-held : (x : ℕ) (xs : List ℕ) → summary key h (x ∷ xs) .held ≡ suc (length xs)
+  unfolding summary
+  summary-held x [] = refl
+  summary-held x (y ∷ more) = refl
+
+  pub summary-first : (x : ℕ) (xs : List ℕ) → summary key h (x ∷ xs) .first ≡ markAt key h x
+  unfolding summary
+  summary-first x [] = refl
+  summary-first x (y ∷ more) = refl
+
+  pub summary-last : (x : ℕ) (xs : List ℕ) → summary key h (x ∷ xs) .last ≡ markAt key h (ladder.lastOf x xs)
+  unfolding summary ladder.lastOf
+  summary-last x [] = refl
+  summary-last x (y ∷ more) = refl
+
+  -- The gap of the first two starts is that of the next two.
+  next-gap : (x y z : ℕ) (zs : List ℕ) → Even (x ∷ y ∷ z ∷ zs) → Alike (agreeUnder key) h (x ∷ y ∷ z ∷ zs) → gapOf x y ≡ gapOf y z
+  next-gap x y z zs e a =
+      let d : y - x ≡ z - y = omega arith in
+      let f : fp key (block h x (y - x)) ≡ fp key (block h y (z - y)) =
+      subst (λ n. fp key (block h x (y - x)) ≡ fp key (block h y n)) d (sym (by-value _ _ (eqb-true _ _ (a .1 .0))))
+      in
+      λ i. record { length = d i; print = f i }
+
+  -- Taking off the first start.
+  pub summary-off :
+      (x : ℕ) (xs : List ℕ)
+      → Ascending (x ∷ xs)
+      → ((s : ℕ) → Has (x ∷ xs) s → s ≤ length h)
+      → Even (x ∷ xs)
+      → Alike (agreeUnder key) h (x ∷ xs)
+      → takenOff key (summary key h (x ∷ xs)) ≡ summary key h xs
+  unfolding takenOff summary ladder.lastOf
+  summary-off x [] up low even like = refl
+  summary-off x (y ∷ []) up low even like = ap alone (forward-to x y (omega (arith, up .0 y (inl refl))) (low y (inr (inl refl))))
+  summary-off x (y ∷ z ∷ zs) up low even like =
+      let n : ℕ = suc (suc (suc (length zs))) in
+      rw (ne-eqb n 1 (omega arith), ne-eqb n 2 (omega arith), takenOff)
+      (stage-by (omega arith) (forward-to x y (omega (arith, up .0 y (inl refl))) (low y (inr (inl refl)))) refl
+      (next-gap x y z zs even like))
+
+  -- A start enters behind those listed, or all of them but the last are set aside.
+  module _ (p : List ℕ) (z : ℕ) (inside : z ≤ length h) where
+    abbrev entering : List ℕ → ladder.Entered
+    entering xs = ladder.enter (agreeUnder key) p h xs z
+
+    -- whether the newcomer continues the progression
+    same-step :
+        (x y : ℕ) (more : List ℕ)
+        → ladder.lastOf y more ≤ z
+        → sameGap (gapTo key (markAt key h (ladder.lastOf y more)) (markAt key h z)) (gapOf x y)
+        ≡ ladder.continues (agreeUnder key) p h x y (ladder.lastOf y more) z
+    same-step x y more l = ap (λ (g : Gap). sameGap g (gapOf x y)) (gap-between (ladder.lastOf y more) z l inside)
+
+    pub summary-entered :
+        (xs : List ℕ)
+        → ((s : ℕ) → Has xs s → s ≤ z)
+        → entered key (summary key h xs) (markAt key h z) ≡ summary key h (entering xs .listed)
+    unfolding entered summary ladder.enter ladder.lastOf
+    summary-entered [] low = refl
+    summary-entered (x ∷ []) low = stage-by refl refl refl (gap-between x z (low x (inl refl)) inside)
+    summary-entered (x ∷ y ∷ more) low =
+        let last : ladder.lastOf y more ≤ z = low _ (inr (has-last y more)) in
+        let n : ℕ = suc (suc (length more)) in
+        by-test (ladder.continues (agreeUnder key) p h x y (ladder.lastOf y more) z)
+        (λ e.
+        rw (ne-eqb n 0 (omega arith), ne-eqb n 1 (omega arith), same-step x y more last, e, entered)
+        (stage-by (simp length-append (omega arith)) refl (ap (markAt key h) (sym (last-snoc y more z))) refl))
+        (λ e.
+        rw (ne-eqb n 0 (omega arith), ne-eqb n 1 (omega arith), same-step x y more last, e, entered)
+        (stage-by refl refl refl (gap-between (ladder.lastOf y more) z last inside)))
+
+    pub summary-aside :
+        (xs : List ℕ)
+        → ((s : ℕ) → Has xs s → s ≤ z)
+        → map readSet
+        (cond (setsAside key (summary key h xs) (markAt key h z)) (allButLast (summary key h xs) ∷ []) [])
+        ≡ entering xs .aside
+    unfolding summary ladder.enter ladder.lastOf
+    summary-aside [] low = refl
+    summary-aside (x ∷ []) low = refl
+    summary-aside (x ∷ y ∷ more) low =
+        let last : ladder.lastOf y more ≤ z = low _ (inr (has-last y more)) in
+        let many : suc (suc (length more)) - 1 ≡ suc (length more) = omega arith in
+        rw (lt-ltb 1 (suc (suc (length more))) (omega arith), same-step x y more last)
+        (by-test (ladder.continues (agreeUnder key) p h x y (ladder.lastOf y more) z)
+        (λ e. rw e)
+        (λ e. rw (e, many)))
+
+  -- With more bytes, what is stored of earlier places stays.
+  module _ (u : List ℕ) where
+    pub mark-grown : (s : ℕ) → s ≤ length h → markAt key (h ++ u) s ≡ markAt key h s
+    mark-grown s l = ap (λ (x : List ℕ). record { at = s; print = fp key x }) (take-append-le s h u l)
+
+    block-grown : (s n : ℕ) → s + n ≤ length h → block (h ++ u) s n ≡ block h s n
+    block-grown s n l =
+        rw (drop-append-le s h u (omega arith)) (take-append-le n (drop s h) u (simp length-drop (omega arith)))
+
+    pub summary-grown : (xs : List ℕ) → ((s : ℕ) → Has xs s → s ≤ length h) → summary key (h ++ u) xs ≡ summary key h xs
+    unfolding summary
+    summary-grown [] low = refl
+    summary-grown (x ∷ []) low = ap alone (mark-grown x (low x (inl refl)))
+    summary-grown (x ∷ y ∷ more) low =
+        let gap : block (h ++ u) x (y - x) ≡ block h x (y - x) =
+        block-grown x (y - x) (omega (arith, low x (inl refl), low y (inr (inl refl))))
+        in
+        stage-by refl (mark-grown x (low x (inl refl))) (mark-grown _ (low _ (inr (has-last y more))))
+        (ap (λ (b : List ℕ). record { length = y - x; print = fp key b }) gap)
