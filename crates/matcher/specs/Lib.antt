@@ -1,2 +1,3 @@
 pub mod Matcher
 pub mod Stroke
+pub mod Scan

@@ -638,3 +638,13 @@ impl Matcher {
         }
     }
 }
+
+// Where a run of strokes ended: the watch; the answer to the last byte taken, if it has something to report; all comparisons; the place
+// behind the last byte taken; and why the next byte was refused, if it was.
+pub struct Scan {
+    pub matcher: Matcher,
+    pub answer: Answer,
+    pub comparisons: u64,
+    pub next: usize,
+    pub verdict: Verdict,
+}
