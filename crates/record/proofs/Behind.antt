@@ -1,0 +1,78 @@
+-- Parking behind the used part of a buffer: what is lent is what stands behind the used length, and the front stays.
+-- Assumes nothing.
+use Prim.Native.Nat.{ℕ, _+_, _-_, _≤_, _<_, min}
+use mathlib.Core.Path.{_≡_, sym, _∙_, ap}
+use mathlib.Core.Bool.{Bool, true, false}
+use mathlib.Core.List.{List, [], _++_, append-nil}
+use native.Mathlib.Nat.{le-refl}
+use native.Mathlib.Decide.{decLe}
+use native.Mathlib.Omega.{arith}
+use lib.ListN.{length, take, drop, length-drop, drop-of-length-le}
+use lib.Seq.{take-all}
+use borrow.Author.Tests.{le-ltb, lt-ltb}
+use Rattle.matcher.specs.declared.Matcher.{Matcher}
+use Rattle.record.specs.Calls.{
+  putUsed,
+  saveRefusal,
+  saveUsed,
+  saveBuffer,
+  behindRefusal,
+  behindUsed,
+  behindBuffer,
+}
+
+-- a writer uses no more than it is lent
+pub used-within : (fits : Bool) (bytes entry : List ℕ) → putUsed fits bytes entry ≤ length entry
+used-within false bytes entry = omega arith
+used-within true bytes entry =
+    elim (decLe (length bytes) (length entry)) [
+      | yes h ↦ rw (le-ltb (length entry) (length bytes) h) h
+      | no h ↦ rw (lt-ltb (length entry) (length bytes) (omega arith)) (omega arith)
+    ]
+
+module _ (xs : List ℕ) (used from : ℕ) (e : from ≡ min used (length xs)) where
+  -- the place from which on the buffer is lent, and the part that is lent
+  front-same : take from xs ≡ take used xs
+  front-same =
+      elim (decLe used (length xs)) [
+        | yes h ↦ let same : from ≡ used = omega arith in rw same
+        | no h ↦ take-all from xs (omega arith) ∙ sym (take-all used xs (omega arith))
+      ]
+
+  rest-same : drop from xs ≡ drop used xs
+  rest-same =
+      elim (decLe used (length xs)) [
+        | yes h ↦ let same : from ≡ used = omega arith in rw same
+        | no h ↦ drop-of-length-le xs {i = from} (omega arith) ∙ sym (drop-of-length-le xs {i = used} (omega arith))
+      ]
+
+  lent : take (length xs - from) (drop from xs) ≡ drop used xs
+  lent = take-all (length xs - from) (drop from xs) (rw (length-drop from xs) (le-refl (length xs - from))) ∙ rest-same
+
+  nothing-behind : drop (length xs - from) (drop from xs) ≡ []
+  nothing-behind = drop-of-length-le (drop from xs) {i = length xs - from} (rw (length-drop from xs) (le-refl (length xs - from)))
+
+  -- the used length and the record together are no more than the used length or the buffer
+  pub behind-within :
+      (fits : Bool) (bytes : List ℕ) (bound : ℕ)
+      → used < bound
+      → length xs < bound
+      → used + putUsed fits bytes (take (length xs - from) (drop from xs)) < bound
+  behind-within fits bytes bound h l =
+      rw lent (omega (arith, used-within fits bytes (drop used xs), length-drop used xs))
+
+  pub saved-behind :
+      (w : Matcher) (n u : ℕ) (ys : List ℕ)
+      → n ≡ saveRefusal w (take (length xs - from) (drop from xs))
+      → u ≡ saveUsed w (take (length xs - from) (drop from xs))
+      → ys ≡ saveBuffer w (take (length xs - from) (drop from xs))
+      → (n ≡ behindRefusal w xs used)
+      × ((used + u ≡ behindUsed w xs used)
+      × (take from xs ++ (ys ++ drop (length xs - from) (drop from xs)) ≡ behindBuffer w xs used))
+  saved-behind w n u ys en eu ey = (
+    rw lent at en,
+    (
+      ap (λ (k : ℕ). used + k) (rw lent at eu),
+      rw (nothing-behind, append-nil, front-same) (ap (λ (l : List ℕ). take used xs ++ l) (rw lent at ey)),
+    ),
+  )

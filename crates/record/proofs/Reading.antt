@@ -1,0 +1,78 @@
+-- What the card reader's tests decide: of the verdict's number, the card handed back and the bytes taken.
+-- Assumes nothing.
+use Prim.Native.Nat.{ℕ, _+_}
+use mathlib.Core.Path.{_≡_, refl}
+use mathlib.Core.Bool.{true, false}
+use mathlib.Core.List.{List}
+use native.Mathlib.Omega.{arith}
+use borrow.Author.Tests.{ne-eqb}
+use Rattle.refusal.specs.declared.Refusal.{Refusal}
+use Rattle.refusal.specs.declared.Refusal.the-variants.{
+  Empty,
+  Overlong,
+  Key,
+  Unfinished,
+  Surplus,
+  Spent,
+  NoSpace,
+  Short,
+  Kind,
+  Misfit,
+  OtherPassage,
+}
+use Rattle.refusal.specs.Number.{refusalNumber}
+use Rattle.signature.specs.declared.Signature.{Signature}
+use Rattle.signature.specs.Signature.{noSignature}
+use Rattle.record.specs.Layout.{lengthField, signatureKind, signatureAt}
+use Rattle.record.specs.Calls.{
+  headRefusal,
+  signatureLeast,
+  signatureSuits,
+  readRefusal,
+  readSignature,
+  readTaken,
+}
+
+-- A refusal's number is not that of an acceptance.
+pub refusal-given : (r : Refusal) → refusalNumber r ≡ 0 → ⊥
+refusal-given Empty e = omega arith
+refusal-given Overlong e = omega arith
+refusal-given Key e = omega arith
+refusal-given Unfinished e = omega arith
+refusal-given Surplus e = omega arith
+refusal-given Spent e = omega arith
+refusal-given NoSpace e = omega arith
+refusal-given Short e = omega arith
+refusal-given Kind e = omega arith
+refusal-given Misfit e = omega arith
+refusal-given OtherPassage e = omega arith
+
+module _ (s : List ℕ) where
+  pub unread-at : (n : ℕ) → n ≡ headRefusal signatureKind signatureLeast s → (n ≡ 0 → ⊥) → n ≡ readRefusal s
+  unfolding readRefusal
+  unread-at n e h = rw (← e, ne-eqb n 0 h)
+
+  pub unsuited : 0 ≡ headRefusal signatureKind signatureLeast s → signatureSuits s ≡ false → 10 ≡ readRefusal s
+  unfolding readRefusal
+  unsuited e h = rw (← e, h)
+
+  -- refused: nothing is handed back
+  pub read-nothing :
+      (n taken : ℕ) (card : Signature)
+      → (n ≡ 0 → ⊥)
+      → n ≡ readRefusal s
+      → card ≡ noSignature
+      → taken ≡ 0
+      → (n ≡ readRefusal s) × ((card ≡ readSignature s) × (taken ≡ readTaken s))
+  unfolding readSignature readTaken
+  read-nothing n taken card h e ec et = rw (← e, ne-eqb n 0 h) (refl, (ec, et))
+
+  pub read-whole :
+      (taken : ℕ) (card : Signature)
+      → 0 ≡ headRefusal signatureKind signatureLeast s
+      → signatureSuits s ≡ true
+      → card ≡ signatureAt s
+      → taken ≡ lengthField s + 4
+      → (0 ≡ readRefusal s) × ((card ≡ readSignature s) × (taken ≡ readTaken s))
+  unfolding readRefusal readSignature readTaken
+  read-whole taken card e h ec et = rw (← e, h) (refl, (ec, et))

@@ -1,0 +1,60 @@
+-- What the checkpoint reader's tests decide: of the verdict's number, the matcher handed back and the bytes taken.
+-- Assumes nothing.
+use Prim.Native.Nat.{ℕ, _+_}
+use mathlib.Core.Path.{_≡_, refl}
+use mathlib.Core.Bool.{true, false}
+use mathlib.Core.List.{List}
+use borrow.Author.Tests.{ne-eqb}
+use Rattle.signature.specs.declared.Signature.{Signature}
+use Rattle.signature.specs.Signature.{signatureFits, noSignature}
+use Rattle.matcher.specs.declared.Matcher.{Matcher}
+use Rattle.matcher.specs.Matcher.{blank}
+use Rattle.record.specs.Layout.{lengthField, checkpointKind, samePattern, matcherAt}
+use Rattle.record.specs.Calls.{
+  headRefusal,
+  checkpointLeast,
+  checkpointSuits,
+  restoreRefusal,
+  restoredMatcher,
+  restoreTaken,
+}
+
+module _ (card : Signature) (s : List ℕ) where
+  pub card-misfits : signatureFits card ≡ false → 10 ≡ restoreRefusal card s
+  unfolding restoreRefusal
+  card-misfits e = rw e
+
+  -- refused: nothing is handed back
+  pub restore-nothing :
+      (n taken : ℕ) (w : Matcher)
+      → (n ≡ 0 → ⊥)
+      → n ≡ restoreRefusal card s
+      → w ≡ blank noSignature
+      → taken ≡ 0
+      → (n ≡ restoreRefusal card s) × ((w ≡ restoredMatcher card s) × (taken ≡ restoreTaken card s))
+  unfolding restoredMatcher restoreTaken
+  restore-nothing n taken w h e ew et = rw (← e, ne-eqb n 0 h) (refl, (ew, et))
+
+  module _ (fits : signatureFits card ≡ true) where
+    pub unrestored-at : (n : ℕ) → n ≡ headRefusal checkpointKind checkpointLeast s → (n ≡ 0 → ⊥) → n ≡ restoreRefusal card s
+    unfolding restoreRefusal
+    unrestored-at n e h = rw (fits, ← e, ne-eqb n 0 h)
+
+    module _ (head : 0 ≡ headRefusal checkpointKind checkpointLeast s) where
+      pub other-pattern : samePattern card s ≡ false → 11 ≡ restoreRefusal card s
+      unfolding restoreRefusal
+      other-pattern e = rw (fits, ← head, e)
+
+      pub not-suited : samePattern card s ≡ true → checkpointSuits card s ≡ false → 10 ≡ restoreRefusal card s
+      unfolding restoreRefusal
+      not-suited e h = rw (fits, ← head, e, h)
+
+      pub restore-whole :
+          (taken : ℕ) (w : Matcher)
+          → samePattern card s ≡ true
+          → checkpointSuits card s ≡ true
+          → w ≡ matcherAt card s
+          → taken ≡ lengthField s + 4
+          → (0 ≡ restoreRefusal card s) × ((w ≡ restoredMatcher card s) × (taken ≡ restoreTaken card s))
+      unfolding restoreRefusal restoredMatcher restoreTaken
+      restore-whole taken w e h ew et = rw (fits, ← head, e, h) (refl, (ew, et))

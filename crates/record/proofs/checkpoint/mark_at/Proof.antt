@@ -1,0 +1,19 @@
+-- `record::checkpoint::mark_at` meets its contract.
+use borrow.Author.Needs.{needs}
+use Rattle.record.proofs.checkpoint.mark_at.Statement.{statement}
+use Rattle.record.proofs.checkpoint.mark_at.Tie as tie
+
+add-print-at : tie.Need-add-print-at
+add-print-at c = search needs
+
+print-at-requires : tie.Need-print-at-requires
+print-at-requires c κs = search needs
+
+number-at-requires : tie.Need-number-at-requires
+number-at-requires c κs = search needs
+
+returns : tie.Need-returns
+returns c = λ i. record { at = c .number-at .ensures i; print = c .before .print-at .ensures i }
+
+pub mark-at-spec : {M : Type 1} → statement M
+mark-at-spec = tie.close (tie.spec add-print-at print-at-requires number-at-requires returns)

@@ -1,0 +1,69 @@
+-- `record::checkpoint::put_checkpoint` meets its contract: the head and the fields, one behind another, are the record.
+use Rattle.record.proofs.Assembled.{checkpoint-put}
+use borrow.Author.Needs.{needs}
+use Rattle.record.proofs.checkpoint.put_checkpoint.Statement.{statement}
+use Rattle.record.proofs.checkpoint.put_checkpoint.Tie as tie
+
+mul-last : tie.Need-mul-last
+mul-last c = search needs
+
+element-copy-out-last : tie.Need-element-copy-out-last
+element-copy-out-last c = search needs
+
+checkpoint-length-requires : tie.Need-checkpoint-length-requires
+checkpoint-length-requires c κs = search needs
+
+cast-put-head : tie.Need-cast-put-head
+cast-put-head c = search needs
+
+put-head-requires : tie.Need-put-head-requires
+put-head-requires c κs = search needs
+
+put-word-requires : tie.Need-put-word-requires
+put-word-requires c κs = search needs
+
+put-key-requires : tie.Need-put-key-requires
+put-key-requires c κs = search needs
+
+put-print-requires : tie.Need-put-print-requires
+put-print-requires c κs = search needs
+
+put-mark-requires : tie.Need-put-mark-requires
+put-mark-requires c κs = search needs
+
+put-stages-requires : tie.Need-put-stages-requires
+put-stages-requires c κs = search needs
+
+same-length : tie.Need-same-length
+same-length c = search needs
+
+returns : tie.Need-returns
+returns c =
+    let stages = c .before .before in
+    let now = stages .before .before .before .before in
+    let last = now .before .before .before .before in
+    let key = last .before .before .before .before in
+    let m = key .before .before .before .before in
+    let head = m .before .before .before .before in
+    let start = head .before .before .before .before .before .before .before .before .before in
+    checkpoint-put (start .args .matcher) (start .args .k) (start .args .buf .now) (head .put-head .last .0) (m .put-word .last .0)
+    (key .put-key .last .0) (last .put-print .last .0) (now .put-mark .last .0) _ (start .pre .0) (start .pre .2)
+    (rw (head .before .checkpoint-length .ensures) at (head .put-head .ensures))
+    (m .put-word .ensures) (key .put-key .ensures) (last .put-print .ensures) (now .put-mark .ensures) (stages .put-stages .ensures)
+
+pub put-checkpoint-spec : {M : Type 1} → statement M
+put-checkpoint-spec =
+    tie.close
+    (tie.spec
+    mul-last
+    element-copy-out-last
+    checkpoint-length-requires
+    cast-put-head
+    put-head-requires
+    put-word-requires
+    put-key-requires
+    put-print-requires
+    put-mark-requires
+    put-stages-requires
+    same-length
+    returns)

@@ -1,0 +1,34 @@
+-- `record::checkpoint::put_mark` meets its contract: one field behind another.
+use Prim.Native.Nat.{_+_}
+use mathlib.Core.Path.{refl, _∙_}
+use mathlib.Core.List.{[], _∷_}
+use native.Mathlib.Omega.{arith}
+use Rattle.record.specs.Layout.{printFields}
+use Rattle.record.proofs.Pasted.{stamped-stamped}
+use borrow.Author.Needs.{needs}
+use Rattle.record.proofs.checkpoint.put_mark.Statement.{statement}
+use Rattle.record.proofs.checkpoint.put_mark.Tie as tie
+
+put-word-requires : tie.Need-put-word-requires
+put-word-requires c κs = search needs
+
+add-put-print : tie.Need-add-put-print
+add-put-print c = search needs
+
+put-print-requires : tie.Need-put-print-requires
+put-print-requires c κs = search needs
+
+same-length : tie.Need-same-length
+same-length c = search needs
+
+returns : tie.Need-returns
+returns c =
+    let first = c .before .before .before .before .before .before in
+    let a = first .before .before .before .before .args in
+    c .before .before .put-print .ensures
+    ∙ rw (first .put-word .ensures)
+    (stamped-stamped (a .buf .now) (a .mark .at ∷ []) (a .at) (printFields (a .mark .print)) (a .at + 4) refl (omega arith))
+
+pub put-mark-spec : {M : Type 1} → statement M
+put-mark-spec =
+    tie.close (tie.spec put-word-requires add-put-print put-print-requires same-length returns)

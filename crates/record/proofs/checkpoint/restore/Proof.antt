@@ -1,0 +1,209 @@
+-- `record::checkpoint::restore` meets its contract: its tests are the definition's, in their order.
+use Prim.Native.Nat.{ℕ, _+_}
+use mathlib.Core.Path.{_≡_, sym, _∙_, ap}
+use mathlib.Core.Bool.{true, false}
+use native.Mathlib.Omega.{arith}
+use borrow.Author.Tests.{ne-eqb, eq-eqb, not-true, not-false}
+use Rattle.ladder.specs.Prefix.{levels}
+use Rattle.refusal.specs.declared.Refusal.the-variants.{Misfit, OtherPassage}
+use Rattle.refusal.specs.Number.{refusalNumber, number}
+use Rattle.signature.specs.Signature.{signatureFits}
+use Rattle.record.specs.Layout.{lengthField, checkpointLength, samePattern}
+use Rattle.record.specs.Calls.{checkpointSuits}
+use Rattle.record.proofs.Fits.{good-card}
+use Rattle.record.proofs.Reading.{refusal-given}
+use Rattle.record.proofs.Restoring.{card-misfits, restore-nothing, unrestored-at, other-pattern, not-suited, restore-whole}
+use borrow.Author.Needs.{needs}
+use Rattle.record.proofs.checkpoint.restore.Statement.{statement}
+use Rattle.record.proofs.checkpoint.restore.Tie as tie
+use Rattle.matcher.proofs.Matcher.fits.Reads as Matcher-fits-reads
+use Rattle.signature.proofs.Signature.fits.Reads as Signature-fits-reads
+
+fits-requires : tie.Need-fits-requires
+fits-requires c κs = search needs
+
+not-restored-requires : tie.Need-not-restored-requires
+not-restored-requires c κs = search needs
+
+returns : tie.Need-returns
+returns c =
+    let a = c .before .before .before .before .args in
+    let u = c .not-restored .ensures in
+    let fails : signatureFits (a .signature) ≡ false = sym (c .before .before .fits2 .ensures) ∙ not-true _ (c .before .if1 .taken) in
+    restore-nothing (a .signature) (a .buf .now) _ _ _ (rw (u .0) (refusal-given Misfit))
+    (u .0 ∙ card-misfits (a .signature) (a .buf .now) fails) (u .1) (u .2)
+
+check-head-requires : tie.Need-check-head-requires
+check-head-requires c κs = search needs
+
+enum-known-head : tie.Need-enum-known-head
+enum-known-head c = search needs
+
+not-restored-requires-2 : tie.Need-not-restored-requires-2
+not-restored-requires-2 c κs = search needs
+
+returns-2 : tie.Need-returns-2
+returns-2 c =
+    let e = c .before .before .before .before .before in
+    let a = e .before .before .before .args in
+    let card = a .signature in
+    let s = a .buf .now in
+    let fits : signatureFits card ≡ true = sym (e .before .fits2 .ensures) ∙ not-false _ (e .if1 .left) in
+    let refusal = c .before .before .head .given .0 .0 in
+    let head = ap number (sym (c .before .before .head .given .1)) ∙ c .before .before .before .before .check-head .ensures in
+    let u = c .not-restored2 .ensures in
+    restore-nothing card s _ _ _ (rw (u .0) (refusal-given refusal))
+    (u .0 ∙ unrestored-at card s fits (refusalNumber refusal) head (refusal-given refusal)) (u .1) (u .2)
+
+enum-told : tie.Need-enum-told
+enum-told c = search needs
+
+same-pattern-requires : tie.Need-same-pattern-requires
+same-pattern-requires c κs =
+    let e = c .before .before .before in
+    let a = e .before .before .before .args in
+    let card = a .signature in
+    let s = a .buf .now in
+    let fits : signatureFits card ≡ true = sym (e .before .fits2 .ensures) ∙ not-false _ (e .if1 .left) in
+    good-card card fits .stages
+
+not-restored-requires-3 : tie.Need-not-restored-requires-3
+not-restored-requires-3 c κs = search needs
+
+returns-3 : tie.Need-returns-3
+returns-3 c =
+    let told = c .before .before .before in
+    let e = told .before .before .before in
+    let a = e .before .before .before .args in
+    let card = a .signature in
+    let s = a .buf .now in
+    let fits : signatureFits card ≡ true = sym (e .before .fits2 .ensures) ∙ not-false _ (e .if1 .left) in
+    let head = ap number (sym (told .enum-told .given .1)) ∙ told .before .before .check-head .ensures in
+    let u = c .not-restored3 .ensures in
+    let differs : samePattern card s ≡ false = sym (c .before .before .same-pattern .ensures) ∙ not-true _ (c .before .if2 .taken) in
+    restore-nothing card s _ _ _ (rw (u .0) (refusal-given OtherPassage)) (u .0 ∙ other-pattern card s fits head differs) (u .1) (u .2)
+
+number-at-requires : tie.Need-number-at-requires
+number-at-requires c κs = search needs
+
+levels-requires : tie.Need-levels-requires
+levels-requires c κs = search needs
+
+cast-if3 : tie.Need-cast-if3
+cast-if3 c = search needs
+
+checkpoint-length-requires : tie.Need-checkpoint-length-requires
+checkpoint-length-requires c κs = search needs
+
+not-restored-requires-4 : tie.Need-not-restored-requires-4
+not-restored-requires-4 c κs = search needs
+
+returns-4 : tie.Need-returns-4
+returns-4 c =
+    let k = c .before .before in
+    let told = k .before .before .before .before .before in
+    let e = told .before .before .before in
+    let a = e .before .before .before .args in
+    let card = a .signature in
+    let s = a .buf .now in
+    let fits : signatureFits card ≡ true = sym (e .before .fits2 .ensures) ∙ not-false _ (e .if1 .left) in
+    let head = ap number (sym (told .enum-told .given .1)) ∙ told .before .before .check-head .ensures in
+    let same : samePattern card s ≡ true = sym (k .before .before .before .before .same-pattern .ensures) ∙ not-false _ (k .before .before .before .if2 .left) in
+    let length = k .before .before .number-at .ensures in
+    let due : k .checkpoint-length .result ≡ checkpointLength (levels (card .length)) =
+    k .checkpoint-length .ensures ∙ rw (k .before .levels .ensures)
+    in
+    let u = c .not-restored4 .ensures in
+    let fails : checkpointSuits card s ≡ false =
+    rw (ne-eqb (lengthField s) _ (λ q. c .before .if3 .taken (length ∙ q ∙ sym due)))
+    in
+    restore-nothing card s _ _ _ (rw (u .0) (refusal-given Misfit)) (u .0 ∙ not-suited card s fits head same fails) (u .1) (u .2)
+
+matcher-at-requires : tie.Need-matcher-at-requires
+matcher-at-requires c κs = search needs
+
+fits-requires-2 : tie.Need-fits-requires-2
+fits-requires-2 c κs = search needs
+
+not-restored-requires-5 : tie.Need-not-restored-requires-5
+not-restored-requires-5 c κs = search needs
+
+returns-5 : tie.Need-returns-5
+returns-5 c =
+    let k = c .before .before .before .before .before in
+    let told = k .before .before .before .before .before in
+    let e = told .before .before .before in
+    let a = e .before .before .before .args in
+    let card = a .signature in
+    let s = a .buf .now in
+    let fits : signatureFits card ≡ true = sym (e .before .fits2 .ensures) ∙ not-false _ (e .if1 .left) in
+    let head = ap number (sym (told .enum-told .given .1)) ∙ told .before .before .check-head .ensures in
+    let same : samePattern card s ≡ true = sym (k .before .before .before .before .same-pattern .ensures) ∙ not-false _ (k .before .before .before .if2 .left) in
+    let length = k .before .before .number-at .ensures in
+    let due : k .checkpoint-length .result ≡ checkpointLength (levels (card .length)) =
+    k .checkpoint-length .ensures ∙ rw (k .before .levels .ensures)
+    in
+    let made = c .before .before .before .matcher-at .ensures in
+    let suited : lengthField s ≡ checkpointLength (levels (card .length)) = omega arith in
+    let u = c .not-restored5 .ensures in
+    let fails : checkpointSuits card s ≡ false =
+    rw (eq-eqb (lengthField s) _ suited, ← made, ← c .before .before .fits3 .ensures) (not-true _ (c .before .if4 .taken))
+    in
+    restore-nothing card s _ _ _ (rw (u .0) (refusal-given Misfit)) (u .0 ∙ not-suited card s fits head same fails) (u .1) (u .2)
+
+cast-t17 : tie.Need-cast-t17
+cast-t17 c = search needs
+
+add-t18 : tie.Need-add-t18
+add-t18 c = search needs
+
+returns-6 : tie.Need-returns-6
+returns-6 c =
+    let k = c .before .before .before .before in
+    let told = k .before .before .before .before .before in
+    let e = told .before .before .before in
+    let a = e .before .before .before .args in
+    let card = a .signature in
+    let s = a .buf .now in
+    let fits : signatureFits card ≡ true = sym (e .before .fits2 .ensures) ∙ not-false _ (e .if1 .left) in
+    let head = ap number (sym (told .enum-told .given .1)) ∙ told .before .before .check-head .ensures in
+    let same : samePattern card s ≡ true = sym (k .before .before .before .before .same-pattern .ensures) ∙ not-false _ (k .before .before .before .if2 .left) in
+    let length = k .before .before .number-at .ensures in
+    let due : k .checkpoint-length .result ≡ checkpointLength (levels (card .length)) =
+    k .checkpoint-length .ensures ∙ rw (k .before .levels .ensures)
+    in
+    let made = c .before .before .matcher-at .ensures in
+    let suited : lengthField s ≡ checkpointLength (levels (card .length)) = omega arith in
+    let passes : checkpointSuits card s ≡ true =
+    rw (eq-eqb (lengthField s) _ suited, ← made, ← c .before .fits3 .ensures) (not-false _ (c .if4 .left))
+    in
+    restore-whole card s fits head _ _ same passes made (ap (λ (n : ℕ). n + 4) length)
+
+pub restore-spec : {M : Type 1} → statement M
+restore-spec =
+    tie.close
+    (tie.spec
+    fits-requires
+    not-restored-requires
+    returns
+    check-head-requires
+    enum-known-head
+    not-restored-requires-2
+    returns-2
+    enum-told
+    same-pattern-requires
+    not-restored-requires-3
+    returns-3
+    number-at-requires
+    levels-requires
+    cast-if3
+    checkpoint-length-requires
+    not-restored-requires-4
+    returns-4
+    matcher-at-requires
+    fits-requires-2
+    not-restored-requires-5
+    returns-5
+    cast-t17
+    add-t18
+    returns-6)

@@ -1,0 +1,28 @@
+-- `record::checkpoint::stage_place` meets its contract.
+use borrow.Author.Tests.{lt-ltb, le-ltb}
+use borrow.Author.Needs.{needs}
+use Rattle.record.proofs.checkpoint.stage_place.Statement.{statement}
+use Rattle.record.proofs.checkpoint.stage_place.Tie as tie
+
+no-stage-requires : tie.Need-no-stage-requires
+no-stage-requires c κs = search needs
+
+returns : tie.Need-returns
+returns c = rw (le-ltb _ _ (c .before .if1 .taken)) (c .no-stage .ensures)
+
+mul-stage-at : tie.Need-mul-stage-at
+mul-stage-at c = search needs
+
+add-stage-at : tie.Need-add-stage-at
+add-stage-at c = search needs
+
+stage-at-requires : tie.Need-stage-at-requires
+stage-at-requires c κs = search needs
+
+returns-2 : tie.Need-returns-2
+returns-2 c = rw (lt-ltb _ _ (c .before .if1 .left)) (c .stage-at .ensures)
+
+pub stage-place-spec : {M : Type 1} → statement M
+stage-place-spec =
+    tie.close
+    (tie.spec no-stage-requires returns mul-stage-at add-stage-at stage-at-requires returns-2)

@@ -1,0 +1,72 @@
+-- `record::checkpoint::stages_at` meets its contract: the places passed hold what the record has for them.
+use Prim.Native.Nat.{_-_, _≤_}
+use mathlib.Core.Path.{_≡_, refl, _∙_}
+use native.Mathlib.Omega.{arith}
+use lib.ListN.{length, take, replicate, length-set}
+use Rattle.sequence.specs.Sequence.{tabulate}
+use Rattle.sequence.proofs.Laws.{fill-none, fill-more, fill-all}
+use Rattle.record.specs.Layout.{stagePlace}
+use borrow.Author.Needs.{needs}
+use Rattle.record.proofs.checkpoint.stages_at.Statement.{statement}
+use Rattle.record.proofs.checkpoint.stages_at.Tie as tie
+
+abbrev Inv-loop : tie.InvT-loop
+Inv-loop buf k stages₀ i₀ stages i =
+    (i ≤ 20) × (length stages ≡ 20) × (take i stages ≡ tabulate (stagePlace buf k) i)
+
+abbrev μ-loop : tie.MeasureT-loop
+μ-loop buf k stages₀ i₀ stages i = 20 - i
+
+no-stage-requires : tie.Need-no-stage-requires Inv-loop μ-loop
+no-stage-requires c κs = search needs
+
+loop-holds : tie.Need-loop-holds Inv-loop μ-loop
+loop-holds c = (omega arith, refl, fill-none _ (replicate 20 (c .no-stage .result)))
+
+stage-place-requires : tie.Need-stage-place-requires Inv-loop μ-loop
+stage-place-requires c κs = search needs
+
+mul-stages : tie.Need-mul-stages Inv-loop μ-loop
+mul-stages c = search needs
+
+array-set-from-stages : tie.Need-array-set-from-stages Inv-loop μ-loop
+array-set-from-stages c = search needs
+
+add-i : tie.Need-add-i Inv-loop μ-loop
+add-i c = search needs
+
+loop-less : tie.Need-loop-less Inv-loop μ-loop
+loop-less c = search needs
+
+loop-again : tie.Need-loop-again Inv-loop μ-loop
+loop-again c =
+    let l = c .before .before in
+    let a = l .before .before .before .args in (
+      omega arith,
+      length-set (l .loop .stages) (l .loop .i) (c .stage-place .result) ∙ l .loop .inv .1,
+      rw (c .stage-place .ensures)
+          (fill-more (stagePlace (a .buf .now) (a .k)) (l .loop .stages) (l .loop .i) (omega (arith, l .loop .inv .1)) (l .loop .inv .2)),
+    )
+
+returns : tie.Need-returns Inv-loop μ-loop
+returns c =
+    let l = c .before in
+    let end : l .loop .i ≡ 20 = omega arith in
+    let a = l .before .before .before .args in
+    fill-all (stagePlace (a .buf .now) (a .k)) _ 20 (l .loop .inv .1) (rw end at (l .loop .inv .2))
+
+pub stages-at-spec : {M : Type 1} → statement M
+stages-at-spec =
+    tie.close
+    (tie.spec
+    Inv-loop
+    μ-loop
+    no-stage-requires
+    loop-holds
+    stage-place-requires
+    mul-stages
+    array-set-from-stages
+    add-i
+    loop-less
+    loop-again
+    returns)

@@ -1,0 +1,28 @@
+-- `record::place_at` meets its contract.
+use borrow.Author.Tests.{le-leb, lt-leb}
+use borrow.Author.Needs.{needs}
+use Rattle.record.proofs.place_at.Statement.{statement}
+use Rattle.record.proofs.place_at.Tie as tie
+
+empty-requires : tie.Need-empty-requires
+empty-requires c κs = search needs
+
+returns : tie.Need-returns
+returns c = rw (lt-leb _ _ (c .before .if1 .taken)) (c .empty .ensures)
+
+mul-print-at : tie.Need-mul-print-at
+mul-print-at c = search needs
+
+add-print-at : tie.Need-add-print-at
+add-print-at c = search needs
+
+print-at-requires : tie.Need-print-at-requires
+print-at-requires c κs = search needs
+
+returns-2 : tie.Need-returns-2
+returns-2 c = rw (le-leb _ _ (c .before .if1 .left)) (c .print-at .ensures)
+
+pub place-at-spec : {M : Type 1} → statement M
+place-at-spec =
+    tie.close
+    (tie.spec empty-requires returns mul-print-at add-print-at print-at-requires returns-2)

@@ -1,0 +1,76 @@
+-- `record::write_signature` meets its contract: its tests are the definition's, and the record is written whole.
+use mathlib.Core.Path.{_≡_, sym, _∙_}
+use mathlib.Core.Bool.{true}
+use native.Mathlib.Omega.{arith}
+use borrow.Author.Tests.{not-true, not-false}
+use Rattle.signature.specs.Signature.{signatureFits}
+use Rattle.record.specs.Layout.{signatureRecord}
+use Rattle.record.proofs.Fits.{good-card}
+use Rattle.record.proofs.Sizes.{signature-size}
+use Rattle.record.proofs.Assembled.{put-misfit, put-no-room, put-whole}
+use borrow.Author.Needs.{needs}
+use Rattle.record.proofs.write_signature.Statement.{statement}
+use Rattle.record.proofs.write_signature.Tie as tie
+
+fits-requires : tie.Need-fits-requires
+fits-requires c κs = search needs
+
+returns : tie.Need-returns
+returns c =
+    let a = c .before .before .before .args in
+    put-misfit (signatureFits (a .signature)) (signatureRecord (a .signature)) (a .buf .now)
+    (sym (c .before .fits2 .ensures) ∙ not-true _ (c .if1 .taken))
+
+levels-requires : tie.Need-levels-requires
+levels-requires c κs = search needs
+
+signature-length-requires : tie.Need-signature-length-requires
+signature-length-requires c κs =
+    let e = c .before in
+    let a = e .before .before .before .args in
+    let good : signatureFits (a .signature) ≡ true = sym (e .before .fits2 .ensures) ∙ not-false _ (e .if1 .left) in
+    omega (arith, c .levels .ensures, good-card (a .signature) good .stages)
+
+add-size : tie.Need-add-size
+add-size c = search needs
+
+returns-2 : tie.Need-returns-2
+returns-2 c =
+    let e = c .before .before .before in
+    let a = e .before .before .before .args in
+    let good : signatureFits (a .signature) ≡ true = sym (e .before .fits2 .ensures) ∙ not-false _ (e .if1 .left) in
+    put-no-room (signatureFits (a .signature)) (signatureRecord (a .signature)) (a .buf .now) good
+    (omega (arith, signature-size (a .signature)))
+
+put-signature-requires : tie.Need-put-signature-requires
+put-signature-requires c κs =
+    let e = c .before .before .before .before in
+    let a = e .before .before .before .args in
+    let good : signatureFits (a .signature) ≡ true = sym (e .before .fits2 .ensures) ∙ not-false _ (e .if1 .left) in
+    omega (arith, good-card (a .signature) good .stages)
+
+same-length : tie.Need-same-length
+same-length c = search needs
+
+returns-3 : tie.Need-returns-3
+returns-3 c =
+    let e = c .before .before .before .before .before .before .before in
+    let a = e .before .before .before .args in
+    let good : signatureFits (a .signature) ≡ true = sym (e .before .fits2 .ensures) ∙ not-false _ (e .if1 .left) in
+    let size = signature-size (a .signature) in
+    put-whole (signatureFits (a .signature)) (signatureRecord (a .signature)) (a .buf .now) _ _ good (omega arith) (omega arith)
+    (c .before .before .put-signature .ensures)
+
+pub write-signature-spec : {M : Type 1} → statement M
+write-signature-spec =
+    tie.close
+    (tie.spec
+    fits-requires
+    returns
+    levels-requires
+    signature-length-requires
+    add-size
+    returns-2
+    put-signature-requires
+    same-length
+    returns-3)

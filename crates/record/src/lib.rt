@@ -1,0 +1,195 @@
+// Records of signatures and checkpoints (document 01, "Records"): written into a lent buffer, and read back.
+ghost use mathlib.Core.Path.{_≡_};
+ghost use Prim.Native.Nat.{_+_, _*_, _≤_};
+ghost use lib.ListN.{length};
+ghost use Rattle.ladder.specs.Prefix.{levels};
+ghost use Rattle.sequence.specs.Sequence.{tabulate};
+ghost use Rattle.refusal.specs.Number.{refusalNumber, number};
+ghost use Rattle.signature.specs.Signature.{noSignature};
+ghost use Rattle.record.specs.Layout.{
+  gathered,
+  printFieldsOf,
+  signatureLength,
+  signatureRecord,
+  signatureAt,
+  signaturePlace,
+};
+ghost use Rattle.record.specs.Field.{pasted, stamped};
+ghost use Rattle.record.specs.Calls.{
+  writeRefusal,
+  writeUsed,
+  writeBuffer,
+  readRefusal,
+  readSignature,
+  readTaken,
+};
+use fingerprint::Fingerprint;
+use refusal::Refusal;
+use refusal::Verdict;
+use signature::Signature;
+use signature::levels;
+
+mod field; // field.rt: numbers, keys and fingerprints as fields, and a record's head
+pub mod checkpoint; // checkpoint.rt: checkpoints of matchers
+
+use crate::field::check_head;
+use crate::field::key_at;
+use crate::field::number_at;
+use crate::field::print_at;
+use crate::field::put_head;
+use crate::field::put_key;
+use crate::field::put_print;
+use crate::field::put_word;
+
+// The kind of a card's record, and the least length field that one can have.
+pub const SIGNATURE_KIND: u32 = 1;
+
+pub const SIGNATURE_LEAST: u32 = 10;
+
+// What a writer hands back: the bytes used, 0 where the call is refused; behind a used part, the new used length, the old one where the
+// call is refused.
+pub struct Written {
+    pub verdict: Verdict,
+    pub used: usize,
+}
+
+// What reading a card hands back: the card, and the bytes taken; all 0 where the call is refused.
+pub struct SignatureRead {
+    pub verdict: Verdict,
+    pub signature: Signature,
+    pub taken: usize,
+}
+
+// The length field of a card's record, for k stages.
+fn signature_length(k: u32) -> u64
+    ensures { λ n. ⌜ n ≡ signatureLength k ⌝ }
+{
+    10 + 4 * ((k as u64) + 1)
+}
+
+// Writes the first n fingerprints.
+fn put_prints(buf: &mut [u8], prints: [Fingerprint; 21], n: usize)
+    requires { ⌜ (14 + 4 * n ≤ length (now buf)) × (n ≤ 21) ⌝ }
+    ensures { λ _. ⌜ now (buf .exit) ≡ stamped (now (buf .entry)) 14 (gathered (printFieldsOf prints) n) ⌝ }
+{
+    let mut i: usize = 0;
+    while i < n {
+        let print = prints[i];
+        put_print(buf, 14 + 4 * i, print);
+        i = i + 1;
+    }
+}
+
+// Writes the card's record at the front of a buffer that has room for it.
+fn put_signature(buf: &mut [u8], signature: Signature, k: u32)
+    requires { ⌜ (k ≡ levels (signature .length)) × (k ≤ 20) × (14 + 4 * (k + 1) ≤ length (now buf)) ⌝ }
+    ensures { λ _. ⌜ now (buf .exit) ≡ pasted (now (buf .entry)) 0 (signatureRecord signature) ⌝ }
+{
+    let key = signature.key;
+    let prints = signature.prints;
+    put_head(buf, signature_length(k) as u32, SIGNATURE_KIND);
+    put_word(buf, 6, signature.length);
+    put_key(buf, 10, key);
+    put_prints(buf, prints, (k as usize) + 1);
+}
+
+// Writes a card into the front of the buffer. Refusals: 10 misfit, 7 no space.
+pub fn write_signature(signature: Signature, buf: &mut [u8]) -> Written
+    ensures verdict { λ r. ⌜ number (r .verdict) ≡ writeRefusal signature (now (buf .entry)) ⌝ }
+    ensures used { λ r. ⌜ r .used ≡ writeUsed signature (now (buf .entry)) ⌝ }
+    ensures buffer { λ r. ⌜ now (buf .exit) ≡ writeBuffer signature (now (buf .entry)) ⌝ }
+{
+    if !signature.fits() {
+        return Written {
+            verdict: Verdict::Refused(Refusal::Misfit),
+            used: 0,
+        };
+    }
+    let k = levels(signature.length);
+    let size = (signature_length(k) as usize) + 4;
+    if buf.len() < size {
+        return Written {
+            verdict: Verdict::Refused(Refusal::NoSpace),
+            used: 0,
+        };
+    }
+    put_signature(buf, signature, k);
+    Written {
+        verdict: Verdict::Accepted,
+        used: size,
+    }
+}
+
+// The fingerprint at place i of a card's record with k stages: nothing past P_k.
+fn place_at(buf: &[u8], k: u32, i: usize) -> Fingerprint
+    requires { ⌜ i ≤ 21 ⌝ }
+    ensures { λ print. ⌜ print ≡ signaturePlace (now (buf .entry)) k i ⌝ }
+{
+    if (k as usize) < i {
+        return Fingerprint::empty();
+    }
+    print_at(buf, 14 + 4 * i)
+}
+
+fn prints_at(buf: &[u8], k: u32) -> [Fingerprint; 21]
+    ensures { λ prints. ⌜ prints ≡ tabulate (signaturePlace (now (buf .entry)) k) 21 ⌝ }
+{
+    let nothing = Fingerprint::empty();
+    let mut prints = [nothing; 21];
+    let mut i: usize = 0;
+    while i < 21 {
+        prints[i] = place_at(buf, k, i);
+        i = i + 1;
+    }
+    prints
+}
+
+// The card that a card's record makes.
+fn signature_at(buf: &[u8]) -> Signature
+    ensures { λ signature. ⌜ signature ≡ signatureAt (now (buf .entry)) ⌝ }
+{
+    let m = number_at(buf, 6);
+    let key = key_at(buf, 10);
+    let prints = prints_at(buf, levels(m));
+    Signature {
+        length: m,
+        key,
+        prints,
+    }
+}
+
+fn unread(refusal: Refusal) -> SignatureRead
+    ensures { λ r. ⌜ (number (r .verdict) ≡ refusalNumber refusal) × (r .signature ≡ noSignature) × (r .taken ≡ 0) ⌝ }
+{
+    SignatureRead {
+        verdict: Verdict::Refused(refusal),
+        signature: Signature::none(),
+        taken: 0,
+    }
+}
+
+// Reads a card. Refusals: those of the head, then 10 where the length does not suit k or the card misfits.
+pub fn read_signature(buf: &[u8]) -> SignatureRead
+    ensures verdict { λ r. ⌜ number (r .verdict) ≡ readRefusal (now (buf .entry)) ⌝ }
+    ensures signature { λ r. ⌜ r .signature ≡ readSignature (now (buf .entry)) ⌝ }
+    ensures taken { λ r. ⌜ r .taken ≡ readTaken (now (buf .entry)) ⌝ }
+{
+    let head = check_head(buf, SIGNATURE_KIND, SIGNATURE_LEAST);
+    if let Verdict::Refused(refusal) = head {
+        return unread(refusal);
+    }
+    let length = number_at(buf, 0);
+    let k = levels(number_at(buf, 6));
+    if (length as u64) != signature_length(k) {
+        return unread(Refusal::Misfit);
+    }
+    let signature = signature_at(buf);
+    if !signature.fits() {
+        return unread(Refusal::Misfit);
+    }
+    SignatureRead {
+        verdict: Verdict::Accepted,
+        signature,
+        taken: (length as usize) + 4,
+    }
+}

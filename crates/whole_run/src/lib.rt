@@ -1,0 +1,1 @@
+// The whole-run claim: definitions in specs/, the theorem in proofs/, no code.
