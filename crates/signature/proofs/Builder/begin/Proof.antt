@@ -18,7 +18,8 @@ blank-requires-2 c κs = search needs
 
 returns-2 : tie.Need-returns-2
 unfolding begun
-returns-2 c = rw (ne-eqb _ _ (c .before .before .if1 .left), lt-ltb _ _ (c .before .if2 .taken)) (refl, c .blank2 .ensures)
+returns-2 c =
+    rw (ne-eqb _ _ (c .before .before .if1 .left), lt-ltb _ _ (c .before .if2 .taken)) (refl, c .blank2 .ensures)
 
 fits-requires : tie.Need-fits-requires
 fits-requires c κs = search needs

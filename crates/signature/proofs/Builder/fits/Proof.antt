@@ -17,32 +17,97 @@ fits-requires c κs = search needs
 
 returns-2 : tie.Need-returns-2
 unfolding builderFits
-returns-2 c = rw (← c .before .before .before .length-fits .ensures, not-false (c .before .before .before .length-fits .result) (c .before .before .if1 .left), ← c .before .fits2 .ensures, not-true (c .before .fits2 .result) (c .if2 .taken))
+returns-2 c =
+    let length-fits = c .before .before .before .length-fits in
+    rw (
+      ← length-fits .ensures,
+      not-false (length-fits .result) (c .before .before .if1 .left),
+      ← c .before .fits2 .ensures,
+      not-true (c .before .fits2 .result) (c .if2 .taken),
+    )
 
 returns-3 : tie.Need-returns-3
 unfolding builderFits
-returns-3 c = rw (← c .before .before .before .before .length-fits .ensures, not-false (c .before .before .before .before .length-fits .result) (c .before .before .before .if1 .left), ← c .before .before .fits2 .ensures, not-false (c .before .before .fits2 .result) (c .before .if2 .left), lt-leb _ _ (c .if3 .taken))
+returns-3 c =
+    let fits2 = c .before .before .fits2 in
+    let length-fits = c .before .before .before .before .length-fits in
+    rw (
+      ← length-fits .ensures,
+      not-false (length-fits .result) (c .before .before .before .if1 .left),
+      ← fits2 .ensures,
+      not-false (fits2 .result) (c .before .if2 .left),
+      lt-leb _ _ (c .if3 .taken),
+    )
 
 fits-requires-2 : tie.Need-fits-requires-2
 fits-requires-2 c κs = search needs
 
 returns-4 : tie.Need-returns-4
 unfolding builderFits
-returns-4 c = rw (← c .before .before .before .before .before .before .length-fits .ensures, not-false (c .before .before .before .before .before .before .length-fits .result) (c .before .before .before .before .before .if1 .left), ← c .before .before .before .before .fits2 .ensures, not-false (c .before .before .before .before .fits2 .result) (c .before .before .before .if2 .left), le-leb _ _ (c .before .before .if3 .left), ← c .before .fits3 .ensures, not-true (c .before .fits3 .result) (c .if4 .taken))
+returns-4 c =
+    let fits2 = c .before .before .before .before .fits2 in
+    let if1 = c .before .before .before .before .before .if1 in
+    let length-fits = c .before .before .before .before .before .before .length-fits in
+    rw (
+      ← length-fits .ensures,
+      not-false (length-fits .result) (if1 .left),
+      ← fits2 .ensures,
+      not-false (fits2 .result) (c .before .before .before .if2 .left),
+      le-leb _ _ (c .before .before .if3 .left),
+      ← c .before .fits3 .ensures,
+      not-true (c .before .fits3 .result) (c .if4 .taken),
+    )
 
 running-fits-requires : tie.Need-running-fits-requires
 running-fits-requires c κs = search needs
 
 returns-5 : tie.Need-returns-5
 unfolding builderFits
-returns-5 c = rw (← c .before .before .before .before .before .before .before .before .length-fits .ensures, not-false (c .before .before .before .before .before .before .before .before .length-fits .result) (c .before .before .before .before .before .before .before .if1 .left), ← c .before .before .before .before .before .before .fits2 .ensures, not-false (c .before .before .before .before .before .before .fits2 .result) (c .before .before .before .before .before .if2 .left), le-leb _ _ (c .before .before .before .before .if3 .left), ← c .before .before .before .fits3 .ensures, not-false (c .before .before .before .fits3 .result) (c .before .before .if4 .left), ← c .before .running-fits .ensures, not-true (c .before .running-fits .result) (c .if5 .taken))
+returns-5 c =
+    let fits3 = c .before .before .before .fits3 in
+    let if3 = c .before .before .before .before .if3 in
+    let if2 = c .before .before .before .before .before .if2 in
+    let fits2 = c .before .before .before .before .before .before .fits2 in
+    let if1 = c .before .before .before .before .before .before .before .if1 in
+    let length-fits = c .before .before .before .before .before .before .before .before .length-fits in
+    rw (
+      ← length-fits .ensures,
+      not-false (length-fits .result) (if1 .left),
+      ← fits2 .ensures,
+      not-false (fits2 .result) (if2 .left),
+      le-leb _ _ (if3 .left),
+      ← fits3 .ensures,
+      not-false (fits3 .result) (c .before .before .if4 .left),
+      ← c .before .running-fits .ensures,
+      not-true (c .before .running-fits .result) (c .if5 .taken),
+    )
 
 prints-fit-requires : tie.Need-prints-fit-requires
 prints-fit-requires c κs = search needs
 
 returns-6 : tie.Need-returns-6
 unfolding builderFits
-returns-6 c = rw (← c .before .before .before .before .before .before .before .before .before .before .length-fits .ensures, not-false (c .before .before .before .before .before .before .before .before .before .before .length-fits .result) (c .before .before .before .before .before .before .before .before .before .if1 .left), ← c .before .before .before .before .before .before .before .before .fits2 .ensures, not-false (c .before .before .before .before .before .before .before .before .fits2 .result) (c .before .before .before .before .before .before .before .if2 .left), le-leb _ _ (c .before .before .before .before .before .before .if3 .left), ← c .before .before .before .before .before .fits3 .ensures, not-false (c .before .before .before .before .before .fits3 .result) (c .before .before .before .before .if4 .left), ← c .before .before .before .running-fits .ensures, not-false (c .before .before .before .running-fits .result) (c .before .before .if5 .left)) (c .prints-fit .ensures)
+returns-6 c =
+    let running-fits = c .before .before .before .running-fits in
+    let if4 = c .before .before .before .before .if4 in
+    let fits3 = c .before .before .before .before .before .fits3 in
+    let if3 = c .before .before .before .before .before .before .if3 in
+    let if2 = c .before .before .before .before .before .before .before .if2 in
+    let fits2 = c .before .before .before .before .before .before .before .before .fits2 in
+    let if1 = c .before .before .before .before .before .before .before .before .before .if1 in
+    let length-fits = c .before .before .before .before .before .before .before .before .before .before .length-fits in
+    rw (
+      ← length-fits .ensures,
+      not-false (length-fits .result) (if1 .left),
+      ← fits2 .ensures,
+      not-false (fits2 .result) (if2 .left),
+      le-leb _ _ (if3 .left),
+      ← fits3 .ensures,
+      not-false (fits3 .result) (if4 .left),
+      ← running-fits .ensures,
+      not-false (running-fits .result) (c .before .before .if5 .left),
+    )
+    (c .prints-fit .ensures)
 
 pub fits-spec : {M : Type 1} → statement M
 fits-spec =

@@ -16,7 +16,14 @@ returns c = rw (← c .before .fits2 .ensures, not-true (c .before .fits2 .resul
 
 returns-2 : tie.Need-returns-2
 unfolding afterPush
-returns-2 c = rw (← c .before .before .before .fits2 .ensures, not-false (c .before .before .before .fits2 .result) (c .before .before .if1 .left), le-ltb _ _ (c .if2 .taken)) (refl, refl)
+returns-2 c =
+    let fits2 = c .before .before .before .fits2 in
+    rw (
+      ← fits2 .ensures,
+      not-false (fits2 .result) (c .before .before .if1 .left),
+      le-ltb _ _ (c .if2 .taken),
+    )
+    (refl, refl)
 
 add-taken : tie.Need-add-taken
 add-taken c = search needs
@@ -29,7 +36,19 @@ store-requires c κs = search needs
 
 returns-3 : tie.Need-returns-3
 unfolding afterPush
-returns-3 c = rw (← c .before .before .before .before .before .before .before .before .fits2 .ensures, not-false (c .before .before .before .before .before .before .before .before .fits2 .result) (c .before .before .before .before .before .before .before .if1 .left), lt-ltb _ _ (c .before .before .before .before .before .if2 .left), c .store .ensures, c .before .before .push .ensures, add-one) (refl, refl)
+returns-3 c =
+    let if2 = c .before .before .before .before .before .if2 in
+    let if1 = c .before .before .before .before .before .before .before .if1 in
+    let fits2 = c .before .before .before .before .before .before .before .before .fits2 in
+    rw (
+      ← fits2 .ensures,
+      not-false (fits2 .result) (if1 .left),
+      lt-ltb _ _ (if2 .left),
+      c .store .ensures,
+      c .before .before .push .ensures,
+      add-one,
+    )
+    (refl, refl)
 
 pub push-spec : {M : Type 1} → statement M
 push-spec =
