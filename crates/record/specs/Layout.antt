@@ -83,7 +83,7 @@ stageFields s = s .held ∷ markFields (s .first) ++ markFields (s .last) ++ gap
 abbrev pub lastPrint : Signature → Fingerprint
 lastPrint s = getD (s .prints) (levels (s .length)) empty
 
--- those of a card's print i, and of a watch's stage i
+-- the fields of a card's print i, and of a watch's stage i
 abbrev pub printFieldsOf : List Fingerprint → ℕ → List ℕ
 printFieldsOf prints i = printFields (getD prints i empty)
 
