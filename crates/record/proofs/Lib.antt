@@ -8,5 +8,6 @@ mod Assembled
 mod Reading
 mod Restoring
 mod Behind
+pub mod Refused
 pub mod SignatureRoundTrip
 pub mod CheckpointRoundTrip

@@ -1,0 +1,20 @@
+-- "A refused call changes .. no byte of a buffer": what a refused writer leaves, also behind a used part.
+-- Assumes nothing.
+use Prim.Native.Nat.{ℕ, _+_}
+use mathlib.Core.Path.{_≡_, refl, _∙_, ap}
+use mathlib.Core.Bool.{Bool}
+use mathlib.Core.List.{List, _++_}
+use native.Mathlib.Nat.{add-zero}
+use lib.ListN.{take, drop, take-append-drop}
+use borrow.Author.Tests.{ne-eqb}
+use Rattle.matcher.specs.declared.Matcher.{Matcher}
+use Rattle.record.specs.Calls.{putRefusal, putUsed, putBuffer, behindRefusal, behindUsed, behindBuffer}
+
+pub refused-put : (fits : Bool) (bytes entry : List ℕ) → (putRefusal fits bytes entry ≡ 0 → ⊥) → putBuffer fits bytes entry ≡ entry
+refused-put fits bytes entry refused = rw (ne-eqb _ _ refused)
+
+pub refused-behind :
+    (w : Matcher) (entry : List ℕ) (used : ℕ)
+    → (behindRefusal w entry used ≡ 0 → ⊥)
+    → (behindBuffer w entry used ≡ entry) × (behindUsed w entry used ≡ used)
+refused-behind w entry used refused = rw (ne-eqb _ _ refused) (take-append-drop used entry, add-zero used)
