@@ -24,3 +24,4 @@ pub mod Quiet
 pub mod Count
 pub mod Once
 pub mod Theorem
+pub mod Verdicts

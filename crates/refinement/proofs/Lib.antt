@@ -8,3 +8,4 @@ pub mod Visits
 pub mod Card
 pub mod WatchFits
 pub mod Refines
+pub mod EveryCard

@@ -22,17 +22,17 @@ use Rattle.ladder.proofs.Even.{after-even}
 use Rattle.ladder.proofs.Gaps.{after-alike}
 use Rattle.sequence.specs.Sequence.{tabulate}
 use Rattle.sequence.proofs.Laws.{length-tabulate, getD-tabulate, tabulated}
-use Rattle.signature.specs.Signature.{maxLength, signatureOf}
+use Rattle.signature.specs.Signature.{maxLength, signatureFits, signatureOf}
 use Rattle.matcher.specs.Matcher.{maxTaken, stageCount, noStage}
 use Rattle.matcher.specs.Stroke.{nextMark, walkedFrom, walked, strokeRefusal, strokeAnswer}
 use Rattle.matcher.specs.declared.Walk.{Walk}
 use Rattle.refinement.specs.Refinement.{Bytes, agreeUnder, markAt, summary, watchOf, Refines}
-use Rattle.refinement.proofs.Card.{card-prints}
+use Rattle.refinement.proofs.Card.{card-prints, card-fits}
 use Rattle.refinement.proofs.Summary.{mark-grown, summary-grown}
 use Rattle.refinement.proofs.Follow.{Scene, top, Follows}
 use Rattle.refinement.proofs.Visits.{Upon, step-follows}
 use Rattle.refinement.proofs.Sound.{after-taken}
-use Rattle.refinement.proofs.WatchFits.{fits}
+use Rattle.refinement.proofs.WatchFits.{card-long, card-short, card-watch-fits}
 
 -- To have one fingerprint is an equivalence.
 module _ (key : Key) where
@@ -48,113 +48,125 @@ module _ (key : Key) where
   pub agree-on : (u v x : List ℕ) → agreeUnder key u v ≡ true → agreeUnder key v x ≡ true → agreeUnder key u x ≡ true
   agree-on u v x e f = eq-eqb (value u) (value x) (eqb-true (value u) (value v) e ∙ eqb-true (value v) (value x) f)
 
-module _
-    (key : Key)
-    (p : List ℕ)
-    (key-fits : keyFits key ≡ true)
-    (long : 1 ≤ length p)
-    (short : length p ≤ maxLength)
-    (pattern : Bytes p)
-  where
-    module _ (h : List ℕ) (b : ℕ) where
-      abbrev grown : List ℕ
-      grown = h ++ b ∷ []
+-- The card of any list of numbers, bytes or not, if it is no misfit.
+module _ (key : Key) (p : List ℕ) (card : signatureFits (signatureOf key p) ≡ true) where
+  long : 1 ≤ length p
+  long = card-long key p card
 
-      grown-length : length grown ≡ suc (length h)
-      grown-length = length-append h (b ∷ []) ∙ omega arith
+  short : length p ≤ maxLength
+  short = card-short key p card
 
-      -- the byte as the watch meets it, and what it comes upon
-      abbrev scene : Scene
-      scene =
-          record {
-            key = key;
-            pattern = p;
-            prints = signatureOf key p .prints;
-            history = grown;
-            t = length h;
-            told = card-prints key p long short;
-            small = levels-bound (length p) short;
-            now = grown-length;
-          }
+  module _ (h : List ℕ) (b : ℕ) where
+    abbrev grown : List ℕ
+    grown = h ++ b ∷ []
 
-      abbrev before : ladder.Stages
-      before = ladder.after (agreeUnder key) p grown (length h)
+    grown-length : length grown ≡ suc (length h)
+    grown-length = length-append h (b ∷ []) ∙ omega arith
 
-      upon : Upon scene before
-      upon =
-          let l : length h ≤ length grown = omega (arith, grown-length) in
-          record {
-            ok = after-staged (agreeUnder key) p grown long (length h) l;
-            even = after-even (agreeUnder key) p grown long (length h) l;
-            like = after-alike (agreeUnder key) grown (agree-same key) (agree-back key) (agree-on key) p long (length h) l;
-          }
+    -- the byte as the watch meets it, and what it comes upon
+    abbrev scene : Scene
+    scene =
+        record {
+          key = key;
+          pattern = p;
+          prints = signatureOf key p .prints;
+          history = grown;
+          t = length h;
+          told = card-prints key p short;
+          small = levels-bound (length p) short;
+          now = grown-length;
+        }
 
-      -- The watch stores the same of the longer history's first bytes.
-      stored-before : (i : ℕ) → i < stageCount → getD (watchOf key p h .stages) i noStage ≡ summary key grown (before i)
-      unfolding watchOf
-      stored-before i l =
-          getD-tabulate _ stageCount i noStage l
-          ∙ ap (λ (s : ladder.Stages). summary key h (s i)) (sym (after-append (agreeUnder key) p h (b ∷ []) (length h) (omega arith)))
-          ∙ sym (summary-grown key h (b ∷ []) (before i) (λ s r. omega (arith, upon .ok .aged i .old s r)))
+    abbrev before : ladder.Stages
+    before = ladder.after (agreeUnder key) p grown (length h)
 
-      whole : take (suc (length h)) grown ≡ grown
-      whole = take-all (suc (length h)) grown (omega (arith, grown-length))
+    upon : Upon scene before
+    upon =
+        let l : length h ≤ length grown = omega (arith, grown-length) in
+        record {
+          ok = after-staged (agreeUnder key) p grown long (length h) l;
+          even = after-even (agreeUnder key) p grown long (length h) l;
+          like = after-alike (agreeUnder key) grown (agree-same key) (agree-back key) (agree-on key) p long (length h) l;
+        }
 
-      next-mark : nextMark key (markAt key h (length h)) b ≡ markAt key grown (suc (length h))
-      next-mark =
-          ap (λ (f : Fingerprint). record { at = suc (length h); print = f })
-          (rw (take-length h, whole) (sym (fp-push key h b)))
+    -- The watch stores the same of the longer history's first bytes.
+    stored-before : (i : ℕ) → i < stageCount → getD (watchOf key p h .stages) i noStage ≡ summary key grown (before i)
+    unfolding watchOf
+    stored-before i l =
+        getD-tabulate _ stageCount i noStage l
+        ∙ ap (λ (s : ladder.Stages). summary key h (s i)) (sym (after-append (agreeUnder key) p h (b ∷ []) (length h) (omega arith)))
+        ∙ sym (summary-grown key h (b ∷ []) (before i) (λ s r. omega (arith, upon .ok .aged i .old s r)))
 
-      -- The ladder's step at this byte, and the watch's.
-      abbrev stepped : ladder.Walk
-      stepped = ladder.step (agreeUnder key) p grown before
+    whole : take (suc (length h)) grown ≡ grown
+    whole = take-all (suc (length h)) grown (omega (arith, grown-length))
 
-      walked-follows : Follows scene (top scene) stepped (walked (watchOf key p h) b)
-      unfolding walkedFrom watchOf signatureOf
-      walked-follows =
-          rw (next-mark, ← mark-grown key h (b ∷ []) (length h) (omega arith))
-          (step-follows scene before upon long _ (length-tabulate _ stageCount) stored-before)
+    next-mark : nextMark key (markAt key h (length h)) b ≡ markAt key grown (suc (length h))
+    next-mark =
+        ap (λ (f : Fingerprint). record { at = suc (length h); print = f })
+        (rw (take-length h, whole) (sym (fp-push key h b)))
 
-      -- That step leads to what the ladder lists after the byte, and to its answer.
-      stepped-after : stepped .stages ≡ ladder.after (agreeUnder key) p grown (length grown)
-      unfolding ladder.after
-      stepped-after =
-          rw grown-length (ap (λ (x : List ℕ). ladder.step (agreeUnder key) p x before .stages) (sym whole))
+    -- The ladder's step at this byte, and the watch's.
+    abbrev stepped : ladder.Walk
+    stepped = ladder.step (agreeUnder key) p grown before
 
-      stepped-answer : stepped .answer ≡ ladder.answerAt (agreeUnder key) p grown (length h + 1)
-      unfolding ladder.answerAt
-      stepped-answer = rw add-one (ap (λ (x : List ℕ). ladder.step (agreeUnder key) p x before .answer) (sym whole))
+    walked-follows : Follows scene (top scene) stepped (walked (watchOf key p h) b)
+    unfolding walkedFrom watchOf signatureOf
+    walked-follows =
+        rw (next-mark, ← mark-grown key h (b ∷ []) (length h) (omega arith))
+        (step-follows scene before upon long _ (length-tabulate _ stageCount) stored-before)
 
-      stages-after :
-          walked (watchOf key p h) b .stages
-          ≡ tabulate (λ i. summary key grown (ladder.after (agreeUnder key) p grown (length grown) i)) stageCount
-      stages-after =
-          tabulated _ stageCount noStage _ (walked-follows .long)
-          (λ i l. walked-follows .stage i l ∙ ap (λ (s : ladder.Stages). summary key grown (s i)) stepped-after)
+    -- That step leads to what the ladder lists after the byte, and to its answer.
+    stepped-after : stepped .stages ≡ ladder.after (agreeUnder key) p grown (length grown)
+    unfolding ladder.after
+    stepped-after =
+        rw grown-length (ap (λ (x : List ℕ). ladder.step (agreeUnder key) p x before .stages) (sym whole))
 
-      accepted : length h < maxTaken → strokeRefusal (watchOf key p h) ≡ 0
-      unfolding watchOf
-      accepted l = rw (fits key p key-fits long short pattern h, lt-ltb (length h) maxTaken l)
+    stepped-answer : stepped .answer ≡ ladder.answerAt (agreeUnder key) p grown (length h + 1)
+    unfolding ladder.answerAt
+    stepped-answer = rw add-one (ap (λ (x : List ℕ). ladder.step (agreeUnder key) p x before .answer) (sym whole))
 
-      watch-after :
-          record {
-            signature = watchOf key p h .signature;
-            now = nextMark (watchOf key p h .signature .key) (watchOf key p h .now) b;
-            stages = walked (watchOf key p h) b .stages;
-          }
-          ≡ watchOf key p grown
-      unfolding watchOf signatureOf
-      watch-after =
-          let now : nextMark key (markAt key h (length h)) b ≡ markAt key grown (length grown) =
-          next-mark ∙ ap (markAt key grown) (sym grown-length)
-          in
-          λ i. record { signature = signatureOf key p; now = now i; stages = stages-after i }
+    stages-after :
+        walked (watchOf key p h) b .stages
+        ≡ tabulate (λ i. summary key grown (ladder.after (agreeUnder key) p grown (length grown) i)) stageCount
+    stages-after =
+        tabulated _ stageCount noStage _ (walked-follows .long)
+        (λ i l. walked-follows .stage i l ∙ ap (λ (s : ladder.Stages). summary key grown (s i)) stepped-after)
 
-      pub refines : length h < maxTaken → Refines key p h b
-      unfolding strokeAnswer
-      refines l =
-          record {
-            accepted = accepted l;
-            watch = after-taken (watchOf key p h) b (accepted l) ∙ watch-after;
-            answer = rw (accepted l, strokeAnswer) (walked-follows .answer ∙ stepped-answer);
-          }
+    accepted : length h < maxTaken → strokeRefusal (watchOf key p h) ≡ 0
+    unfolding watchOf
+    accepted l = rw (card-watch-fits key p card h, lt-ltb (length h) maxTaken l)
+
+    watch-after :
+        record {
+          signature = watchOf key p h .signature;
+          now = nextMark (watchOf key p h .signature .key) (watchOf key p h .now) b;
+          stages = walked (watchOf key p h) b .stages;
+        }
+        ≡ watchOf key p grown
+    unfolding watchOf signatureOf
+    watch-after =
+        let now : nextMark key (markAt key h (length h)) b ≡ markAt key grown (length grown) =
+        next-mark ∙ ap (markAt key grown) (sym grown-length)
+        in
+        λ i. record { signature = signatureOf key p; now = now i; stages = stages-after i }
+
+    pub card-refines : length h < maxTaken → Refines key p h b
+    unfolding strokeAnswer
+    card-refines l =
+        record {
+          accepted = accepted l;
+          watch = after-taken (watchOf key p h) b (accepted l) ∙ watch-after;
+          answer = rw (accepted l, strokeAnswer) (walked-follows .answer ∙ stepped-answer);
+        }
+
+-- The card of a pattern of bytes.
+pub refines :
+    (key : Key) (p : List ℕ)
+    → keyFits key ≡ true
+    → 1 ≤ length p
+    → length p ≤ maxLength
+    → Bytes p
+    → (h : List ℕ) (b : ℕ)
+    → length h < maxTaken
+    → Refines key p h b
+refines key p key-fits long short pattern = card-refines key p (card-fits key p long short key-fits pattern)

@@ -21,12 +21,12 @@ use Rattle.ladder.proofs.Stages.{after-staged}
 use Rattle.ladder.proofs.Even.{Even, even-last, after-even}
 use Rattle.sequence.specs.Sequence.{tabulate}
 use Rattle.sequence.proofs.Laws.{getD-tabulate}
-use Rattle.signature.specs.Signature.{maxLength, signatureOf}
+use Rattle.signature.specs.Signature.{maxLength, signatureFits, signatureOf}
 use Rattle.matcher.specs.Matcher.{stageCount, noStage, matcherFits, freshRefusal, blank, fresh}
 use Rattle.refinement.specs.Refinement.{Bytes, agreeUnder, summary, watchOf}
 use Rattle.matcher.proofs.Fit.{Fit, idle, single, several}
 use Rattle.refinement.proofs.Sound.{sound-fits}
-use Rattle.refinement.proofs.Card.{card-fits}
+use Rattle.refinement.proofs.Card.{sound-card, card-fits}
 
 -- only below k are the tested beginnings of stages i and i + 1 of different length
 rises-below : (m i : ℕ) → prefixLength m i < prefixLength m (suc i) → i < levels m
@@ -71,6 +71,41 @@ pub start : (key : Key) (p : List ℕ) → blank (signatureOf key p) ≡ watchOf
 unfolding watchOf tabulate summary ladder.after extended
 start key p = refl
 
+-- The card of any list of numbers, bytes or not, if it is no misfit.
+module _ (key : Key) (p : List ℕ) (card : signatureFits (signatureOf key p) ≡ true) where
+  pub card-long : 1 ≤ length p
+  unfolding signatureOf
+  card-long = sound-card (signatureOf key p) card .long
+
+  pub card-short : length p ≤ maxLength
+  unfolding signatureOf
+  card-short = sound-card (signatureOf key p) card .short
+
+  pub card-watch-fits : (h : List ℕ) → matcherFits (watchOf key p h) ≡ true
+  unfolding watchOf signatureOf extended
+  card-watch-fits h =
+      sound-fits (watchOf key p h) (record {
+        card = card;
+        long = card-long;
+        short = card-short;
+        print = fp-below key (take (length h) h);
+        starts = λ z. rw z;
+        stage =
+            λ i l.
+            rw (getD-tabulate (λ i. summary key h (ladder.after (agreeUnder key) p h (length h) i)) stageCount i noStage l)
+            (summary-fit key h (length p) i (length h) _
+            (after-staged (agreeUnder key) p h card-long (length h) (omega arith) .aged i)
+            (after-even (agreeUnder key) p h card-long (length h) (omega arith) i));
+      })
+
+  pub card-accepted : freshRefusal (signatureOf key p) ≡ 0
+  card-accepted = rw card
+
+  pub card-start : fresh (signatureOf key p) ≡ watchOf key p []
+  unfolding fresh
+  card-start = rw (card-accepted, fresh) (start key p)
+
+-- The card of a pattern of bytes.
 module _
     (key : Key)
     (p : List ℕ)
@@ -80,24 +115,10 @@ module _
     (pattern : Bytes p)
   where
     pub fits : (h : List ℕ) → matcherFits (watchOf key p h) ≡ true
-    unfolding watchOf signatureOf extended
-    fits h =
-        sound-fits (watchOf key p h) (record {
-          card = card-fits key p long short key-fits pattern;
-          long = long;
-          short = short;
-          print = fp-below key (take (length h) h);
-          starts = λ z. rw z;
-          stage =
-              λ i l.
-              rw (getD-tabulate (λ i. summary key h (ladder.after (agreeUnder key) p h (length h) i)) stageCount i noStage l)
-              (summary-fit key h (length p) i (length h) _ (after-staged (agreeUnder key) p h long (length h) (omega arith) .aged i)
-              (after-even (agreeUnder key) p h long (length h) (omega arith) i));
-        })
+    fits = card-watch-fits key p (card-fits key p long short key-fits pattern)
 
     pub fresh-accepted : freshRefusal (signatureOf key p) ≡ 0
-    fresh-accepted = rw (card-fits key p long short key-fits pattern)
+    fresh-accepted = card-accepted key p (card-fits key p long short key-fits pattern)
 
     pub fresh-start : fresh (signatureOf key p) ≡ watchOf key p []
-    unfolding fresh
-    fresh-start = rw (fresh-accepted, fresh) (start key p)
+    fresh-start = card-start key p (card-fits key p long short key-fits pattern)

@@ -10,6 +10,7 @@ use Rattle.fingerprint.specs.Fingerprint.{same, fp}
 use Rattle.ladder.specs.Prefix.{block}
 use Rattle.ladder.specs.Ladder as ladder
 use Rattle.sequence.specs.Sequence.{tabulate}
+use Rattle.signature.specs.declared.Signature.{Signature}
 use Rattle.signature.specs.Signature.{signatureOf}
 use Rattle.matcher.specs.declared.Mark.{Mark}
 use Rattle.matcher.specs.declared.Stage.{Stage}
@@ -18,7 +19,7 @@ use Rattle.matcher.specs.declared.Ring.{Ring}
 use Rattle.matcher.specs.declared.Ring.the-variants.{Silent, At}
 use Rattle.matcher.specs.declared.Progression.{Progression}
 use Rattle.matcher.specs.declared.Answer.{Answer}
-use Rattle.matcher.specs.Matcher.{stageCount, noStage}
+use Rattle.matcher.specs.Matcher.{maxTaken, stageCount, noStage, freshRefusal, fresh}
 use Rattle.matcher.specs.Stroke.{alone, strokeRefusal, strokeAnswer, afterStroke}
 
 -- Each number of the list is a byte.
@@ -74,3 +75,11 @@ pub record Refines (key : Key) (p h : List ℕ) (b : ℕ) : Type 0 where
   pub watch : afterStroke (watchOf key p h) b ≡ watchOf key p (h ++ b ∷ [])
   pub answer :
       readAnswer (strokeAnswer (watchOf key p h) b) ≡ ladder.answerAt (agreeUnder key) p (h ++ b ∷ []) (length h + 1)
+
+-- The card s, made from bytes or not, is that of the numbers p: it is accepted, its fresh watch is that of no bytes, and at every byte of
+-- every history the watch answers as the ladder with unlimited lists over p does.
+pub record AsLadder (s : Signature) (p : List ℕ) : Type 0 where
+  pub card : s ≡ signatureOf (s .key) p
+  pub accepted : freshRefusal s ≡ 0
+  pub fresh-watch : fresh s ≡ watchOf (s .key) p []
+  pub byte : (h : List ℕ) (b : ℕ) → length h < maxTaken → Refines (s .key) p h b
