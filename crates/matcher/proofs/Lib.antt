@@ -1,3 +1,9 @@
 pub mod Cases
 pub mod Fit
 pub mod Rounds
+pub mod Ceiling
+pub mod Keeps
+pub mod Sound
+pub mod StrokeFits
+pub mod Quiet
+pub mod Running

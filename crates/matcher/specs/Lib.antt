@@ -1,3 +1,4 @@
 pub mod Matcher
 pub mod Stroke
 pub mod Scan
+pub mod Skip

@@ -1,15 +1,17 @@
 // The streaming matcher (document 01, "Ladder"): a watch in a few hundred bytes, and its answer to each byte.
 ghost use mathlib.Core.Path.{_≡_};
 ghost use mathlib.Core.Bool.{true, cond, not, _&&_};
-ghost use Prim.Native.Nat.{_+_, _-_, _*_, _≤_, _<_, suc};
+ghost use Prim.Native.Nat.{_+_, _-_, _*_, _≤_, _<_, suc, min};
 ghost use lib.Dec.{leb, ltb, eqb};
-ghost use lib.ListN.{getD};
+ghost use lib.ListN.{length, drop, getD};
 ghost use Rattle.fingerprint.specs.Fingerprint.{same};
 ghost use Rattle.ladder.specs.Prefix.{levels, prefixLength};
 ghost use Rattle.refusal.specs.Number.{number};
 ghost use Rattle.signature.specs.Signature.{signatureFits};
 ghost use Rattle.matcher.specs.Matcher.{origin, noGap, noStage, sameMark, sameGap, ageFits, noneFits, oneFits, manyFit, stagePrintsFit, stageFits, stagesFit, matcherFits, freshRefusal, fresh, blank};
 ghost use Rattle.matcher.specs.Stroke.{gapTo, forward, alone, takenOff, entered, asideOf, noProgression, noAnswer, ringing, withAside, ripeAt, promotedUnder, walkedFrom, nextMark, walked, strokeRefusal, strokeAnswer, afterStroke};
+ghost use Rattle.matcher.specs.Scan.{silent, scanned};
+ghost use Rattle.matcher.specs.Skip.{skipped, Unripe, silentEnd, Ends};
 use fingerprint::Fingerprint;
 use fingerprint::Key;
 use refusal::Refusal;
@@ -647,4 +649,174 @@ pub struct Scan {
     pub comparisons: u64,
     pub next: usize,
     pub verdict: Verdict,
+}
+
+impl Stage {
+    // `until`, or less: a t at which the first start of stage i is not yet ripe.
+    fn quiet_until(self, m: u32, i: u32, until: u32) -> u32
+        requires { ⌜ (i < 20) × (1 ≤ m) ⌝ }
+        ensures { λ t. ⌜ (t ≤ until) × ((self .held ≡ 0 → ⊥) → t < self .first .at + prefixLength m (suc i)) ⌝ }
+    {
+        if self.held == 0 {
+            return until;
+        }
+        let length = signature::prefix_length(m, i + 1);
+        let ripe = (self.first.at as u64) + (length as u64);
+        if (until as u64) < ripe {
+            return until;
+        }
+        (ripe - 1) as u32
+    }
+}
+
+// A t up to which no start becomes ripe.
+fn quiet_until(stages: [Stage; 20], m: u32) -> u32
+    requires { ⌜ (1 ≤ m) × (m ≤ 1048576) ⌝ }
+    ensures { λ t. ⌜ Unripe (levels m) m t stages ⌝ }
+{
+    let k = signature::levels(m);
+    let mut until = MAX_TAKEN;
+    let mut i: u32 = 0;
+    while i < k {
+        let stage = stages[i as usize];
+        until = stage.quiet_until(m, i, until);
+        i = i + 1;
+    }
+    until
+}
+
+// The place `most` behind `from`, or the end if that comes first.
+fn reach(end: usize, from: usize, most: u32) -> usize
+    requires { ⌜ from ≤ end ⌝ }
+    ensures { λ n. ⌜ n ≡ from + min most (end - from) ⌝ }
+{
+    if end - from <= (most as usize) {
+        return end;
+    }
+    from + (most as usize)
+}
+
+// t and F_t behind the bytes that are passed over: until t is `until`, a byte is P_0, or none is left.
+fn skip(key: Key, first: Fingerprint, until: u32, start: Mark, input: &[u8], from: usize) -> Mark
+    requires { ⌜ from ≤ length (now input) ⌝ }
+    ensures { λ r. ⌜ r ≡ skipped key first (min (until - start .at) (length (now (input .entry)) - from)) start (drop from (now (input .entry))) ⌝ }
+{
+    let end = reach(input.len(), from, distance(start.at, until));
+    let mut at = from;
+    let mut mark = start;
+    while at < end {
+        let byte = input[at];
+        if (byte as u32) == first.value {
+            return mark;
+        }
+        mark = mark.push(key, byte);
+        at = at + 1;
+    }
+    mark
+}
+
+impl Answer {
+    // Whether there is no ring and no set.
+    fn is_silent(self) -> bool
+        ensures { λ ok. ⌜ ok ≡ silent self ⌝ }
+    {
+        let ring = self.ring;
+        if let Ring::At(_) = ring {
+            return false;
+        }
+        self.asides == 0
+    }
+}
+
+impl Scan {
+    // A run whose last byte had nothing to report.
+    fn silent(matcher: Matcher, comparisons: u64, next: usize, verdict: Verdict) -> Scan
+        ensures { λ r. ⌜ r ≡ silentEnd matcher comparisons next verdict ⌝ }
+    {
+        Scan {
+            matcher,
+            answer: Answer::none(),
+            comparisons,
+            next,
+            verdict,
+        }
+    }
+}
+
+impl Matcher {
+    // The run of a watch that is no misfit.
+    fn run(self, input: &[u8], from: usize) -> Scan
+        requires { ⌜ (matcherFits self ≡ true) × (from ≤ length (now input)) ⌝ }
+        ensures { λ r. ⌜ Ends from (scanned self (drop from (now (input .entry)))) r ⌝ }
+    {
+        let signature = self.signature;
+        let key = signature.key;
+        let first = signature.prints[0];
+        let mut stages = self.stages;
+        let mut now = self.now;
+        let mut at = from;
+        let mut comparisons: u64 = 0;
+        while at < input.len() {
+            let until = quiet_until(stages, signature.length);
+            let start = skip(key, first, until, now, input, at);
+            let skipped = distance(now.at, start.at);
+            now = start;
+            at = at + (skipped as usize);
+            comparisons = comparisons + (skipped as u64);
+            if at < input.len() {
+                if MAX_TAKEN <= start.at {
+                    let matcher = Matcher {
+                        signature,
+                        now,
+                        stages,
+                    };
+                    return Scan::silent(matcher, comparisons, at, Verdict::Refused(Refusal::Spent));
+                }
+                now = start.push(key, input[at]);
+                at = at + 1;
+                let w = climb(Round { signature, now }, start, stages);
+                let answer = w.answer;
+                stages = w.stages;
+                comparisons = comparisons + (answer.comparisons as u64);
+                if !answer.is_silent() {
+                    let matcher = Matcher {
+                        signature,
+                        now,
+                        stages,
+                    };
+                    return Scan {
+                        matcher,
+                        answer,
+                        comparisons,
+                        next: at,
+                        verdict: Verdict::Accepted,
+                    };
+                }
+            }
+        }
+        let matcher = Matcher {
+            signature,
+            now,
+            stages,
+        };
+        Scan::silent(matcher, comparisons, at, Verdict::Accepted)
+    }
+
+    // Takes the bytes from a place of the input on, until one has something to report, none is left or one is refused. Refusals: 10 misfit,
+    // 6 spent. Bytes at which no start is ripe and which are not P_0 cost little more than the running fingerprint.
+    pub fn scan(self, input: &[u8], from: usize) -> Scan
+        ensures matcher { λ r. ⌜ r .matcher ≡ scanned self (drop from (now (input .entry))) .matcher ⌝ }
+        ensures answer { λ r. ⌜ r .answer ≡ scanned self (drop from (now (input .entry))) .answer ⌝ }
+        ensures comparisons { λ r. ⌜ r .comparisons ≡ scanned self (drop from (now (input .entry))) .comparisons ⌝ }
+        ensures next { λ r. ⌜ r .next ≡ from + scanned self (drop from (now (input .entry))) .taken ⌝ }
+        ensures verdict { λ r. ⌜ number (r .verdict) ≡ scanned self (drop from (now (input .entry))) .refusal ⌝ }
+    {
+        if input.len() <= from {
+            return Scan::silent(self, 0, from, Verdict::Accepted);
+        }
+        if !self.fits() {
+            return Scan::silent(self, 0, from, Verdict::Refused(Refusal::Misfit));
+        }
+        self.run(input, from)
+    }
 }

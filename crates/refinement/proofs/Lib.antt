@@ -1,7 +1,3 @@
-pub mod Ceiling
-pub mod Keeps
-pub mod Sound
-pub mod StrokeFits
 pub mod Summary
 pub mod Follow
 pub mod Visits

@@ -31,7 +31,7 @@ use Rattle.refinement.proofs.Card.{card-prints, card-fits}
 use Rattle.refinement.proofs.Summary.{mark-grown, summary-grown}
 use Rattle.refinement.proofs.Follow.{Scene, top, Follows}
 use Rattle.refinement.proofs.Visits.{Upon, step-follows}
-use Rattle.refinement.proofs.Sound.{after-taken}
+use Rattle.matcher.proofs.Sound.{after-taken}
 use Rattle.refinement.proofs.WatchFits.{card-long, card-short, card-watch-fits}
 
 -- To have one fingerprint is an equivalence.

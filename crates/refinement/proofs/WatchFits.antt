@@ -25,7 +25,7 @@ use Rattle.signature.specs.Signature.{maxLength, signatureFits, signatureOf}
 use Rattle.matcher.specs.Matcher.{stageCount, noStage, matcherFits, freshRefusal, blank, fresh}
 use Rattle.refinement.specs.Refinement.{Bytes, agreeUnder, summary, watchOf}
 use Rattle.matcher.proofs.Fit.{Fit, idle, single, several}
-use Rattle.refinement.proofs.Sound.{sound-fits}
+use Rattle.matcher.proofs.Sound.{sound-fits}
 use Rattle.refinement.proofs.Card.{sound-card, card-fits}
 
 -- only below k are the tested beginnings of stages i and i + 1 of different length

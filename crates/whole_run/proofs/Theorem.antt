@@ -9,7 +9,7 @@ use Rattle.signature.specs.declared.Signature.{Signature}
 use Rattle.matcher.specs.declared.Matcher.{Matcher}
 use Rattle.matcher.specs.Stroke.{strokeAnswer}
 use Rattle.refinement.specs.Refinement.{agreeUnder}
-use Rattle.refinement.proofs.Ceiling.{ceiling}
+use Rattle.matcher.proofs.Ceiling.{ceiling}
 use Rattle.whole_run.specs.History.{History, bytesOf, answersOf}
 use Rattle.whole_run.specs.Run.{CardOf, Call, Run, Wrote}
 use Rattle.whole_run.proofs.Cards.{card-of}

@@ -15,17 +15,17 @@ use Rattle.fingerprint.specs.Fingerprint.{p}
 use Rattle.ladder.specs.Prefix.{levels, prefixLength}
 use Rattle.ladder.proofs.Levels.{first-length, levels-bound}
 use Rattle.sequence.proofs.Laws.{and-left, and-right}
 use Rattle.matcher.specs.declared.Mark.{Mark}
 use Rattle.matcher.specs.declared.Stage.{Stage}
 use Rattle.matcher.specs.declared.Matcher.{Matcher}
 use Rattle.matcher.specs.Matcher.{stageCount, noStage, matcherFits}
 use Rattle.matcher.specs.Stroke.{takenOff, entered, nextMark, noAnswer, promoted, promotedUnder, matches, tried, ripe, visited, descended, walkedFrom, walked, strokeRefusal, afterStroke}
 use Rattle.matcher.specs.declared.Walk.{Walk}
 use Rattle.matcher.specs.declared.Round.{Round}
 use Rattle.matcher.proofs.Cases.{by-test}
 use Rattle.matcher.proofs.Fit.{Fit, idle, fit-past, fit-print}
-use Rattle.refinement.proofs.Sound.{Sound, sound, sound-fits, taken-fits, after-taken}
-use Rattle.refinement.proofs.Keeps.{fit-later, fit-unripe, fit-off, fit-entered}
+use Rattle.matcher.proofs.Sound.{Sound, sound, sound-fits, taken-fits, after-taken}
+use Rattle.matcher.proofs.Keeps.{fit-later, fit-unripe, fit-off, fit-entered}
 
 -- what is stored at a place is read there, if the list reaches that far; else nothing is
 fit-stored : (m i lo hi : ℕ) (l : List Stage) (s : Stage) → Fit m i lo hi s → Fit m i lo hi (getD (set l i s) i noStage)

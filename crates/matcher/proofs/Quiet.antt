@@ -1,0 +1,209 @@
+-- A byte at which no start is ripe and which is not P_0 only moves t and F_t on; so do several of them.
+-- Assumes nothing.
+use Prim.Native.Nat.{ℕ, zero, suc, _+_, _-_, _*_, _^_, _%_, _≤_, _<_}
+use mathlib.Core.Path.{_≡_, refl, sym, _∙_, ap}
+use mathlib.Core.Bool.{Bool, true, false, cond, not}
+use mathlib.Core.List.{List, [], _∷_}
+use native.Mathlib.Nat.{pow-zero, pow-suc}
+use native.Mathlib.Decide.{ℕ-discrete}
+use native.Mathlib.Numerals.{add-one}
+use native.Mathlib.Omega.{arith}
+use lib.Dec.{eqb}
+use lib.ListN.{length, drop, getD}
+use lib.Seq.{drop-cons}
+use borrow.Author.Tests.{eqb-false, eq-eqb, ne-eqb, lt-ltb}
+use Rattle.fingerprint.specs.declared.Key.{Key}
+use Rattle.fingerprint.specs.declared.Fingerprint.{Fingerprint}
+use Rattle.fingerprint.specs.Fingerprint.{p, same, empty, pushed, rest}
+use Rattle.fingerprint.proofs.Laws.{by-value}
+use Rattle.ladder.specs.Prefix.{levels, prefixLength}
+use Rattle.matcher.specs.declared.Mark.{Mark}
+use Rattle.matcher.specs.declared.Stage.{Stage}
+use Rattle.matcher.specs.declared.Matcher.{Matcher}
+use Rattle.matcher.specs.declared.Walk.{Walk}
+use Rattle.matcher.specs.declared.Round.{Round}
+use Rattle.matcher.specs.Matcher.{maxTaken, noStage, matcherFits}
+use Rattle.matcher.specs.Stroke.{gapTo, noAnswer, compared, nextMark, matches, tried, ripe, visited, descended, walkedFrom, walked, strokeRefusal, strokeAnswer, afterStroke}
+use Rattle.matcher.specs.Scan.{Scanned, onward, scanned}
+use Rattle.matcher.specs.Skip.{skipped, Unripe}
+use Rattle.matcher.proofs.Cases.{by-test}
+use Rattle.matcher.proofs.Rounds.{visit-unripe}
+use Rattle.matcher.proofs.StrokeFits.{stroke-fits}
+
+-- the fingerprint of a block of one byte
+cut-back : (f r b : ℕ) → ((f * r + b) % p + (p - f * (1 * r) % p)) % p ≡ (0 * r + b) % p
+cut-back f r b = omega arith
+
+one-byte : (key : Key) (f : Fingerprint) (b n : ℕ) → n ≡ 1 → rest key (pushed key f b) f n ≡ pushed key empty b
+one-byte key f b n e = rw e (by-value _ _ (rw (pow-suc, pow-zero) (cut-back (f .value) (key .r) b)))
+
+descended-idle : (c : Round) (i : ℕ) (w : Walk) → ((j : ℕ) → j < i → ripe c j (getD (w .stages) j noStage) ≡ false) → descended c i w ≡ w
+unfolding descended
+descended-idle c zero w f = refl
+descended-idle c (suc i) w f =
+    ap (descended c i) (visit-unripe c i w (f i (omega arith))) ∙ descended-idle c i w (λ j l. f j (omega arith))
+
+not-ripe : (c : Round) (i : ℕ) (s : Stage) → ((s .held ≡ 0 → ⊥) → c .now .at < s .first .at + prefixLength (c .signature .length) (suc i)) → ripe c i s ≡ false
+not-ripe c i s f =
+    by-test (eqb (s .held) 0) (λ e. rw e) (λ e. rw (e, ne-eqb (s .first .at + prefixLength (c .signature .length) (suc i)) (c .now .at) (omega (arith, f (eqb-false _ _ e)))))
+
+-- Passing over, at a place of the input: no byte may be passed over, or the next byte is P_0, or it is not.
+module _ (key : Key) (first : Fingerprint) (input : List ℕ) (mark : Mark) where
+  pub skipped-none : (n at : ℕ) → n ≡ 0 → skipped key first n mark (drop at input) ≡ mark
+  unfolding skipped
+  skipped-none n at e = rw e
+
+  module _ (n at : ℕ) (some : 0 < n) (inside : at < length input) (small : getD input at 0 < 256) where
+    skipped-next :
+        skipped key first n mark (drop at input)
+        ≡ cond (eqb (getD input at 0) (first .value)) mark
+        (skipped key first (n - 1) (nextMark key mark (getD input at 0)) (drop (at + 1) input))
+    unfolding skipped
+    skipped-next =
+        let more : n ≡ suc (n - 1) = omega arith in
+        let byte : (0 * key .r + getD input at 0) % p ≡ getD input at 0 = omega arith in
+        ap (λ k. skipped key first k mark (drop at input)) more ∙ rw (drop-cons input at 0 inside, add-one, byte)
+
+    pub skipped-stop : getD input at 0 ≡ first .value → skipped key first n mark (drop at input) ≡ mark
+    skipped-stop e = skipped-next ∙ rw (eq-eqb _ _ e)
+
+    pub skipped-step :
+        (getD input at 0 ≡ first .value → ⊥)
+        → skipped key first n mark (drop at input)
+        ≡ skipped key first (n - 1) (nextMark key mark (getD input at 0)) (drop (at + 1) input)
+    skipped-step e = skipped-next ∙ rw (ne-eqb _ _ e)
+
+-- the watch with another t and F_t
+abbrev pub moved : Matcher → Mark → Matcher
+moved w now = record { signature = w .signature; now = now; stages = w .stages }
+
+-- where a run ends of which n bytes, with c comparisons, were taken before
+abbrev pub ahead : ℕ → ℕ → Scanned → Scanned
+ahead c n r =
+    record {
+      matcher = r .matcher;
+      answer = r .answer;
+      comparisons = c + r .comparisons;
+      taken = n + r .taken;
+      refusal = r .refusal;
+    }
+
+pub scanned-by : {r s : Scanned} → r .matcher ≡ s .matcher → r .answer ≡ s .answer → r .comparisons ≡ s .comparisons → r .taken ≡ s .taken → r .refusal ≡ s .refusal → r ≡ s
+scanned-by m a c t f = λ i. record { matcher = m i; answer = a i; comparisons = c i; taken = t i; refusal = f i }
+
+-- What passing over bytes comes to: so many bytes are taken, with a comparison each, and the watch has moved.
+pub record Skips (w : Matcher) (n : ℕ) (bytes : List ℕ) (now : Mark) : Type 0 where
+  pub taken : ℕ
+  pub most : taken ≤ n
+  pub short : taken ≤ length bytes
+  pub moves : now .at ≡ w .now .at + taken
+  pub fits : matcherFits (moved w now) ≡ true
+  pub same : scanned w bytes ≡ ahead taken taken (scanned (moved w now) (drop taken bytes))
+
+-- The byte b, at which no start is ripe, and which is not P_0.
+module _ (w : Matcher) (b : ℕ) (fits : matcherFits w ≡ true) (room : w .now .at < maxTaken) (unripe : Unripe (levels (w .signature .length)) (w .signature .length) (suc (w .now .at)) (w .stages)) (other : same (pushed (w .signature .key) empty b) (getD (w .signature .prints) 0 empty) ≡ false) where
+  abbrev next : Mark
+  next = nextMark (w .signature .key) (w .now) b
+
+  round : Round
+  round = record { signature = w .signature; now = next }
+
+  taken : strokeRefusal w ≡ 0
+  taken = rw (fits, lt-ltb (w .now .at) maxTaken room)
+
+  unlike : matches (record { signature = w .signature; now = next }) 0 (w .now) ≡ false
+  unlike =
+      ap (λ (f : Fingerprint). same f (getD (w .signature .prints) 0 empty))
+      (one-byte (w .signature .key) (w .now .print) b (suc (w .now .at) - w .now .at) (omega arith))
+      ∙ other
+
+  walked-quietly : walked w b ≡ record { stages = w .stages; answer = compared noAnswer }
+  unfolding walkedFrom tried
+  walked-quietly =
+      rw (
+        descended-idle (record { signature = w .signature; now = next }) (levels (w .signature .length)) (record { stages = w .stages; answer = noAnswer })
+            (λ j l. not-ripe (record { signature = w .signature; now = next }) j (getD (w .stages) j noStage) (unripe j l)),
+        unlike,
+      )
+
+  quiet-answer : strokeAnswer w b ≡ compared noAnswer
+  unfolding strokeAnswer
+  quiet-answer = rw (taken, strokeAnswer, walked-quietly)
+
+  quiet-after : afterStroke w b ≡ moved w next
+  unfolding afterStroke
+  quiet-after = rw (taken, afterStroke, walked-quietly)
+
+  pub quiet-fits : matcherFits (moved w next) ≡ true
+  quiet-fits = rw quiet-after at (stroke-fits w b taken)
+
+  pub quiet-scanned : (bytes : List ℕ) → scanned w (b ∷ bytes) ≡ onward 1 (scanned (moved w next) bytes)
+  unfolding scanned
+  quiet-scanned bytes = rw (taken, quiet-answer, quiet-after)
+
+  pub skip-one : (n : ℕ) (bytes : List ℕ) (now : Mark) → Skips (moved w next) n bytes now → Skips w (suc n) (b ∷ bytes) now
+  skip-one n bytes now q =
+      record {
+        taken = suc (q .taken);
+        most = omega arith;
+        short = omega arith;
+        moves = omega arith;
+        fits = q .fits;
+        same = quiet-scanned bytes ∙ ap (onward 1) (q .same) ∙ scanned-by refl refl (omega arith) (omega arith) refl;
+      }
+
+pub sooner : (k m : ℕ) (stages : List Stage) {t u : ℕ} → t ≤ u → Unripe k m u stages → Unripe k m t stages
+sooner k m stages l f i b h = omega (arith, f i b h)
+
+-- one stage more
+pub unripe-more :
+    (k m : ℕ) (stages : List Stage) {t u : ℕ}
+    → t ≤ u
+    → Unripe k m u stages
+    → ((getD stages k noStage .held ≡ 0 → ⊥) → t < getD stages k noStage .first .at + prefixLength m (suc k))
+    → Unripe (k + 1) m t stages
+unripe-more k m stages l f g i b h =
+    elim (ℕ-discrete i k) [ yes e ↦ rw e (g (rw e at h)) | no e ↦ omega (arith, f i (omega arith) h) ]
+
+pub no-skips : (w : Matcher) (n : ℕ) (bytes : List ℕ) → matcherFits w ≡ true → Skips w n bytes (w .now)
+no-skips w n bytes fits =
+    record {
+      taken = 0;
+      most = omega arith;
+      short = omega arith;
+      moves = omega arith;
+      fits = fits;
+      same = scanned-by refl refl (omega arith) (omega arith) refl;
+    }
+
+abbrev pub first : Matcher → Fingerprint
+first w = getD (w .signature .prints) 0 empty
+
+-- Passing over at most n of the bytes, from a watch at which no start becomes ripe on the way.
+abbrev SkipsAll : ℕ → List ℕ → Type 0
+SkipsAll n bytes =
+    (w : Matcher)
+    → matcherFits w ≡ true
+    → w .now .at + n ≤ maxTaken
+    → Unripe (levels (w .signature .length)) (w .signature .length) (w .now .at + n) (w .stages)
+    → Skips w n bytes (skipped (w .signature .key) (first w) n (w .now) bytes)
+
+skips-more : (n b : ℕ) (bytes : List ℕ) → SkipsAll n bytes → SkipsAll (suc n) (b ∷ bytes)
+unfolding skipped
+skips-more n b bytes more w fits room unripe =
+    by-test (same (pushed (w .signature .key) empty b) (first w))
+    (λ e. rw e (no-skips w (suc n) (b ∷ bytes) fits))
+    (λ e.
+    let t : ℕ = w .now .at in
+    let below : t < maxTaken = omega arith in
+    let soon : Unripe (levels (w .signature .length)) (w .signature .length) (suc t) (w .stages) = sooner (levels (w .signature .length)) (w .signature .length) (w .stages) (omega arith) unripe in
+    let later : Unripe (levels (w .signature .length)) (w .signature .length) (suc t + n) (w .stages) = sooner (levels (w .signature .length)) (w .signature .length) (w .stages) (omega arith) unripe in
+    rw e
+    (skip-one w b fits below soon e n bytes _
+    (more (moved w (nextMark (w .signature .key) (w .now) b)) (quiet-fits w b fits below soon e) (omega arith) later)))
+
+pub skips : (n : ℕ) (bytes : List ℕ) → SkipsAll n bytes
+unfolding skipped
+skips zero bytes = λ w fits room unripe. no-skips w zero bytes fits
+skips (suc n) [] = λ w fits room unripe. no-skips w (suc n) [] fits
+skips (suc n) (b ∷ bytes) = skips-more n b bytes (skips n bytes)

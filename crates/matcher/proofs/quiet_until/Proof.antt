@@ -1,0 +1,63 @@
+-- `matcher::quiet_until` meets its contract: the loop has seen to the stages below i.
+use borrow.Author.Needs.{needs}
+use Prim.Native.Nat.{_-_, _≤_}
+use native.Mathlib.Nat.{not-suc-le-zero}
+use native.Mathlib.Omega.{arith}
+use Rattle.ladder.proofs.Levels.{levels-bound}
+use Rattle.matcher.specs.Skip.{Unripe}
+use Rattle.matcher.proofs.Quiet.{unripe-more}
+use Rattle.matcher.proofs.quiet_until.Statement.{statement}
+use Rattle.matcher.proofs.quiet_until.Tie as tie
+
+abbrev Inv-loop : tie.InvT-loop
+Inv-loop m stages k until₀ i₀ until i = (i ≤ k) × (k ≤ 20) × Unripe i m until stages
+
+abbrev μ-loop : tie.MeasureT-loop
+μ-loop m stages k until₀ i₀ until i = k - i
+
+levels-requires : tie.Need-levels-requires Inv-loop μ-loop
+levels-requires c κs = search needs
+
+loop-holds : tie.Need-loop-holds Inv-loop μ-loop
+loop-holds c = (omega arith, omega (arith, levels-bound (c .before .args .m) (c .before .pre .1)), λ j l. absurd (not-suc-le-zero l))
+
+cast-stage : tie.Need-cast-stage Inv-loop μ-loop
+cast-stage c = search needs
+
+mul-stage : tie.Need-mul-stage Inv-loop μ-loop
+mul-stage c = search needs
+
+array-copy-out-stage : tie.Need-array-copy-out-stage Inv-loop μ-loop
+array-copy-out-stage c = search needs
+
+quiet-until-requires : tie.Need-quiet-until-requires Inv-loop μ-loop
+quiet-until-requires c κs = search needs
+
+add-i : tie.Need-add-i Inv-loop μ-loop
+add-i c = search needs
+
+loop-less : tie.Need-loop-less Inv-loop μ-loop
+loop-less c = search needs
+
+loop-again : tie.Need-loop-again Inv-loop μ-loop
+loop-again c = (omega arith, c .before .before .before .loop .inv .1, unripe-more (c .before .before .before .loop .i) (c .before .before .before .before .before .args .m) (c .before .before .before .before .before .args .t1) (c .quiet-until .ensures .0) (c .before .before .before .loop .inv .2) (c .quiet-until .ensures .1))
+
+returns : tie.Need-returns Inv-loop μ-loop
+returns c = λ j l. c .before .loop .inv .2 j (omega arith)
+
+pub quiet-until-spec : {M : Type 1} → statement M
+quiet-until-spec =
+    tie.close
+    (tie.spec
+    Inv-loop
+    μ-loop
+    levels-requires
+    loop-holds
+    cast-stage
+    mul-stage
+    array-copy-out-stage
+    quiet-until-requires
+    add-i
+    loop-less
+    loop-again
+    returns)

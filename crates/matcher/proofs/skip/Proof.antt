@@ -1,0 +1,68 @@
+-- `matcher::skip` meets its contract: what is still to be passed over leads where all of it led at first.
+use borrow.Author.Needs.{needs}
+use Prim.Native.Nat.{_+_, _-_, _≤_, min}
+use mathlib.Core.Path.{_≡_, sym, _∙_, ap}
+use native.Mathlib.Omega.{arith}
+use lib.ListN.{length, drop, getD}
+use Rattle.matcher.specs.declared.Mark.{Mark}
+use Rattle.matcher.specs.Skip.{skipped}
+use Rattle.matcher.proofs.Quiet.{skipped-none, skipped-stop, skipped-step}
+use Rattle.matcher.proofs.skip.Statement.{statement}
+use Rattle.matcher.proofs.skip.Tie as tie
+
+abbrev Inv-loop : tie.InvT-loop
+Inv-loop key first until input from end at₀ mark₀ at mark = (at ≤ end) × (end ≤ length input) × (mark .at + (end - at) ≤ 4294967295) × (skipped key first (end - at) mark (drop at input) ≡ skipped key first (min (until - mark₀ .at) (length input - from)) mark₀ (drop from input))
+
+abbrev μ-loop : tie.MeasureT-loop
+μ-loop key first until input from end at₀ mark₀ at mark = end - at
+
+distance-requires : tie.Need-distance-requires Inv-loop μ-loop
+distance-requires c κs = search needs
+
+reach-requires : tie.Need-reach-requires Inv-loop μ-loop
+reach-requires c κs = search needs
+
+loop-holds : tie.Need-loop-holds Inv-loop μ-loop
+loop-holds c = (omega arith, omega arith, omega arith, ap (λ n. skipped (c .before .before .before .args .key) (c .before .before .before .args .first) n (c .before .before .before .args .start) (drop (c .before .before .before .args .from) (c .before .before .before .args .input .now))) (omega arith))
+
+shared-slice-read-byte : tie.Need-shared-slice-read-byte Inv-loop μ-loop
+shared-slice-read-byte c = search needs
+
+cast-if1 : tie.Need-cast-if1 Inv-loop μ-loop
+cast-if1 c = omega (arith, c .shared-slice-known2 .given (c .before .before .loop .at))
+
+returns : tie.Need-returns Inv-loop μ-loop
+returns c = sym (skipped-stop (c .before .before .before .before .before .before .before .before .args .key) (c .before .before .before .before .before .before .before .before .args .first) (c .before .before .before .before .before .before .before .before .args .input .now) (c .before .before .before .before .loop .mark) (c .before .before .before .before .before .reach .result - c .before .before .before .before .loop .at) (c .before .before .before .before .loop .at) (omega arith) (omega arith) (c .before .before .shared-slice-known2 .given (c .before .before .before .before .loop .at) .fits) (c .if1 .taken)) ∙ c .before .before .before .before .loop .inv .3
+
+push-requires : tie.Need-push-requires Inv-loop μ-loop
+push-requires c κs = search needs
+
+add-at : tie.Need-add-at Inv-loop μ-loop
+add-at c = search needs
+
+loop-less : tie.Need-loop-less Inv-loop μ-loop
+loop-less c = search needs
+
+loop-again : tie.Need-loop-again Inv-loop μ-loop
+loop-again c = let less : c .before .before .before .before .before .before .reach .result - (c .before .before .before .before .before .loop .at + 1) ≡ c .before .before .before .before .before .before .reach .result - c .before .before .before .before .before .loop .at - 1 = omega arith in (omega arith, c .before .before .before .before .before .loop .inv .1, omega (arith, ap (λ (a : Mark). a .at) (c .push .ensures)), rw (c .push .ensures, less) (sym (skipped-step (c .before .before .before .before .before .before .before .before .before .args .key) (c .before .before .before .before .before .before .before .before .before .args .first) (c .before .before .before .before .before .before .before .before .before .args .input .now) (c .before .before .before .before .before .loop .mark) (c .before .before .before .before .before .before .reach .result - c .before .before .before .before .before .loop .at) (c .before .before .before .before .before .loop .at) (omega arith) (omega arith) (c .before .before .before .shared-slice-known2 .given (c .before .before .before .before .before .loop .at) .fits) (c .before .if1 .left)) ∙ c .before .before .before .before .before .loop .inv .3))
+
+returns-2 : tie.Need-returns-2 Inv-loop μ-loop
+returns-2 c = sym (skipped-none (c .before .before .before .before .before .args .key) (c .before .before .before .before .before .args .first) (c .before .before .before .before .before .args .input .now) (c .before .loop .mark) (c .before .before .reach .result - c .before .loop .at) (c .before .loop .at) (omega arith)) ∙ c .before .loop .inv .3
+
+pub skip-spec : {M : Type 1} → statement M
+skip-spec =
+    tie.close
+    (tie.spec
+    Inv-loop
+    μ-loop
+    distance-requires
+    reach-requires
+    loop-holds
+    shared-slice-read-byte
+    cast-if1
+    returns
+    push-requires
+    add-at
+    loop-less
+    loop-again
+    returns-2)

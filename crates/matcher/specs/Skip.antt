@@ -1,0 +1,44 @@
+-- Definitions for the functions behind `scan`: bytes that can change no stage are passed over together.
+use Prim.Native.Nat.{ℕ, zero, suc, _+_, _<_}
+use mathlib.Core.Path.{_≡_}
+use mathlib.Core.Bool.{cond}
+use mathlib.Core.List.{List, [], _∷_}
+use lib.ListN.{getD}
+use Rattle.fingerprint.specs.declared.Key.{Key}
+use Rattle.fingerprint.specs.declared.Fingerprint.{Fingerprint}
+use Rattle.fingerprint.specs.Fingerprint.{same, empty, pushed}
+use Rattle.ladder.specs.Prefix.{prefixLength}
+use Rattle.refusal.specs.declared.Verdict.{Verdict}
+use Rattle.refusal.specs.Number.{number}
+use Rattle.matcher.specs.declared.Mark.{Mark}
+use Rattle.matcher.specs.declared.Stage.{Stage}
+use Rattle.matcher.specs.declared.Matcher.{Matcher}
+use Rattle.matcher.specs.declared.Scan.{Scan}
+use Rattle.matcher.specs.Matcher.{noStage}
+use Rattle.matcher.specs.Stroke.{nextMark, noAnswer}
+use Rattle.matcher.specs.Scan.{Scanned}
+
+-- t and F_t behind the bytes passed over: at most n of them, and none from the first on whose fingerprint is the one given.
+unfoldable pub skipped : Key → Fingerprint → ℕ → Mark → List ℕ → Mark
+skipped key first zero now bytes = now
+skipped key first (suc n) now [] = now
+skipped key first (suc n) now (byte ∷ bytes) =
+    cond (same (pushed key empty byte) first) now (skipped key first n (nextMark key now byte) bytes)
+
+-- No start of the stages below k becomes ripe up to t.
+abbrev pub Unripe : ℕ → ℕ → ℕ → List Stage → Type 0
+Unripe k m t stages =
+    (i : ℕ) → i < k → (getD stages i noStage .held ≡ 0 → ⊥) → t < getD stages i noStage .first .at + prefixLength m (suc i)
+
+-- A run whose last byte had nothing to report.
+abbrev pub silentEnd : Matcher → ℕ → ℕ → Verdict → Scan
+silentEnd matcher comparisons next verdict =
+    record { matcher = matcher; answer = noAnswer; comparisons = comparisons; next = next; verdict = verdict }
+
+-- What a run of strokes from a place of the input on hands back.
+pub record Ends (from : ℕ) (s : Scanned) (r : Scan) : Type 0 where
+  pub matcher : r .matcher ≡ s .matcher
+  pub answer : r .answer ≡ s .answer
+  pub comparisons : r .comparisons ≡ s .comparisons
+  pub next : r .next ≡ from + s .taken
+  pub verdict : number (r .verdict) ≡ s .refusal
