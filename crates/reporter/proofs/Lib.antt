@@ -1,0 +1,4 @@
+pub mod Transcript
+pub mod Putting
+pub mod Feeding
+pub mod Whole

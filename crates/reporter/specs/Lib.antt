@@ -1,0 +1,3 @@
+pub mod Reporter
+pub mod Calls
+pub mod Run
