@@ -53,7 +53,7 @@ module _ (w : Matcher) (input : List ℕ) (from : ℕ) (s : Scan) where
       let q = ran w (drop from input) in
       record {
         lines = λ total rest.
-        rw (e .0, e .1 .0, e .1 .1 .0, e .1 .1 .1 .0, e .1 .1 .1 .1, ← drop-drop (r .taken) from input) (q .lines total rest);
+            rw (e .0, e .1 .0, e .1 .1 .0, e .1 .1 .1 .0, e .1 .1 .1 .1, ← drop-drop (r .taken) from input) (q .lines total rest);
         later = rw (e .0) (omega (arith, e .1 .1 .1 .0, q .later));
         few = omega (arith, e .1 .1 .0, e .1 .1 .1 .0, q .few);
         onward = omega (arith, e .1 .1 .1 .0);
