@@ -10,10 +10,10 @@ use lib.ListN.{length, take, drop, length-drop}
 use lib.Seq.{drop-drop}
 use borrow.Author.Tests.{leb-true, le-leb, ne-eqb}
 use Rattle.refusal.specs.declared.Refusal.{Refusal}
-use Rattle.refusal.specs.declared.Refusal.the-variants.{Empty, Overlong, Key, Unfinished, Surplus, Spent, NoSpace, Short, Kind, Misfit, OtherPassage}
 use Rattle.refusal.specs.declared.Verdict.{Verdict}
 use Rattle.refusal.specs.declared.Verdict.the-variants.{Accepted, Refused}
-use Rattle.refusal.specs.Number.{refusalNumber, number}
+use Rattle.refusal.specs.Number.{number}
+use Rattle.refusal.proofs.Distinct.{number-injective}
 use Rattle.matcher.specs.declared.Matcher.{Matcher}
 use Rattle.matcher.specs.declared.Scan.{Scan}
 use Rattle.matcher.specs.Scan.{scanned}
@@ -187,21 +187,8 @@ feeds-none p input from entry at e =
     }
 
 -- a refusal's number is not 0
-refusal-some : (r : Refusal) → refusalNumber r ≡ 0 → ⊥
-refusal-some Empty e = omega arith
-refusal-some Overlong e = omega arith
-refusal-some Key e = omega arith
-refusal-some Unfinished e = omega arith
-refusal-some Surplus e = omega arith
-refusal-some Spent e = omega arith
-refusal-some NoSpace e = omega arith
-refusal-some Short e = omega arith
-refusal-some Kind e = omega arith
-refusal-some Misfit e = omega arith
-refusal-some OtherPassage e = omega arith
-
 pub refused-some : {v : Verdict} {r : Refusal} → v ≡ Refused r → number v ≡ 0 → ⊥
-refused-some {v} {r} e z = refusal-some r (sym (ap number e) ∙ z)
+refused-some {v} e z = let w = number-injective v Accepted z in let n : _≡_ {A = ℕ} 0 1 = cc in omega arith
 
 -- the last lines
 pub last-accepted : (p : Progress) → p .verdict ≡ Accepted → pending p [] ≡ lastLine (p .matcher) (p .total)
