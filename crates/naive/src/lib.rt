@@ -1,0 +1,70 @@
+// A plain search for the trials: it compares bytes one by one, and shares no code with the matcher. With it go the counters of a trial and
+// the pseudo-random patterns and streams that are tried.
+pub mod generator; // generator.rt: patterns and streams
+pub mod shapes; // shapes.rt: the shapes of patterns that are tried
+pub mod search; // search.rt: occurrences and collisions, and what becomes of each start
+pub mod tally; // tally.rt: counters and a digest
+
+// The byte at a place, 0 past the end.
+pub fn at(bytes: &[u8], i: usize) -> u8 {
+    if i < bytes.len() { bytes[i] } else { 0 }
+}
+
+// Stores a byte, nothing past the end.
+pub fn put(bytes: &mut [u8], i: usize, byte: u8) {
+    if i < bytes.len() {
+        bytes[i] = byte;
+    }
+}
+
+// The first n bytes, all of them if there are fewer.
+pub fn front(bytes: &[u8], n: usize) -> &[u8] {
+    if n <= bytes.len() {
+        return &bytes[0..n];
+    }
+    bytes
+}
+
+// The bytes behind the first n, all of them if there are fewer.
+pub fn behind(bytes: &[u8], n: usize) -> &[u8] {
+    if n <= bytes.len() {
+        return &bytes[n..];
+    }
+    bytes
+}
+
+// The sum of two places; no trial comes near the end of the numbers.
+pub fn plus(a: usize, b: usize) -> usize {
+    std::num::wrapping_add_usize(a, b)
+}
+
+// The difference of two places, 0 where the second is larger.
+pub fn minus(a: usize, b: usize) -> usize {
+    if b <= a { a - b } else { 0 }
+}
+
+// A place as a number of 32 bits.
+pub fn short(n: usize) -> u32 {
+    (n % 4294967296) as u32
+}
+
+// Copies n bytes from a place to a place.
+pub fn copy(from: &[u8], from_at: usize, bytes: &mut [u8], to_at: usize, n: usize) {
+    let mut i: usize = 0;
+    while i < n {
+        put(bytes, plus(to_at, i), at(from, plus(from_at, i)));
+        i = i + 1;
+    }
+}
+
+// Whether every byte is this one.
+pub fn all_are(bytes: &[u8], byte: u8) -> bool {
+    let mut i: usize = 0;
+    while i < bytes.len() {
+        if bytes[i] != byte {
+            return false;
+        }
+        i = i + 1;
+    }
+    true
+}
