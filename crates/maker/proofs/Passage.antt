@@ -1,6 +1,6 @@
 -- The maker led through a whole passage: every byte is taken, and then the card is given, which is the passage's own.
 -- Assumes nothing.
-use Prim.Native.Nat.{ℕ, _+_, _≤_, _<_, min}
+use Prim.Native.Nat.{ℕ, _+_, _<_, min}
 use mathlib.Core.Path.{_≡_, refl, sym, _∙_, ap, subst₂}
 use mathlib.Core.List.{List, []}
 use native.Mathlib.Nat.{min-eq-left, min-eq-right}
@@ -18,8 +18,8 @@ use Rattle.refusal.proofs.Distinct.{number-injective}
 use Rattle.fingerprint.specs.declared.Key.{Key}
 use Rattle.signature.specs.declared.Builder.{Builder}
 use Rattle.signature.specs.Signature.{maxLength, noSignature, signatureOf}
-use Rattle.signature.specs.Maker.{beginRefusal, begun, pushRefusal, afterPush, finishRefusal, finished}
-use Rattle.signature.specs.Made.{Making, begins, takes, Made}
+use Rattle.signature.specs.Maker.{beginRefusal, begun, afterPush, finishRefusal, finished}
+use Rattle.signature.specs.Made.{Making, begins, takes}
 use Rattle.maker.specs.Maker.{makeRefusal, madeSignature}
 use Rattle.making.proofs.Calls.{length-limits, begin-tells, push-accepted, finish-accepted}
 use Rattle.making.proofs.Made.{making-state, made-card}
@@ -41,23 +41,26 @@ accepted-length : (n : ℕ) (key : Key) → beginRefusal n key ≡ 0 → min n 1
 accepted-length n key e = omega (arith, length-limits n (begin-tells n key e .0))
 
 -- What beginning with that length gives.
+pub record Began (n : ℕ) (key : Key) (b : Builder) : Type 0 where
+  pub accepted : beginRefusal n key ≡ 0
+  pub same-key : b .key ≡ key
+  pub making : Making n (b .key) [] b
+
 module _ (n : ℕ) (key : Key) (v : Verdict) (m : ℕ) (length-told : m ≡ min n 1048577) (number-told : number v ≡ beginRefusal m key) where
   pub begin-number : number v ≡ beginRefusal n key
   begin-number = number-told ∙ ap (λ k. beginRefusal k key) length-told ∙ told-refusal n key
 
-  module _ (b : Builder) (accepted : v ≡ Accepted) (given : b ≡ begun m key) where
-    pub begin-accepted : beginRefusal n key ≡ 0
-    begin-accepted = sym begin-number ∙ ap number accepted
-
-    begin-builder : b ≡ begun n key
-    begin-builder = given ∙ ap (λ k. begun k key) (length-told ∙ accepted-length n key begin-accepted)
-
-    pub begin-key : b .key ≡ key
-    unfolding begun
-    begin-key = rw (begin-builder, begin-accepted, begun)
-
-    pub begin-making : Making n (b .key) [] b
-    begin-making = subst₂ (λ k c. Making n k [] c) (sym begin-key) (sym begin-builder) (begins begin-accepted)
+  pub began : (b : Builder) → b ≡ begun m key → v ≡ Accepted → Began n key b
+  unfolding begun
+  began b given accepted =
+      let ok = sym begin-number ∙ ap number accepted in
+      let same : b ≡ begun n key = given ∙ ap (λ k. begun k key) (length-told ∙ accepted-length n key ok) in
+      let key-same : b .key ≡ key = rw (same, ok, begun) in
+      record {
+        accepted = ok;
+        same-key = key-same;
+        making = subst₂ (λ k c. Making n k [] c) (sym key-same) (sym same) (begins ok);
+      }
 
 module _ (key : Key) (p : List ℕ) where
   -- one byte more is taken

@@ -5,7 +5,6 @@ ghost use Rattle.refusal.specs.Number.{number};
 ghost use Rattle.maker.specs.Maker.{makeRefusal, madeSignature};
 ghost use Rattle.maker.specs.Argument.{parsed, keyOf};
 use fingerprint::Key;
-use refusal::Refusal;
 use refusal::Verdict;
 use signature::Builder;
 use signature::Finished;

@@ -1,15 +1,12 @@
 // The printing program (document 01, "The printing program"): standard input is a card record and then the stream; the lines go to standard
 // output. A read that fails ends the input, and output that cannot be written ends the run.
-ghost use mathlib.Core.Path.{_≡_};
-ghost use mathlib.Core.Bool.{true};
-ghost use Prim.Native.Nat.{_+_, _-_, _≤_};
+ghost use Prim.Native.Nat.{_≤_};
 ghost use lib.ListN.{length};
 ghost use Rattle.io.specs.Counts.{Counts};
 ghost use Rattle.report.specs.State.{Ready, Passed, Turned};
 use libc::STDIN_FILENO;
 use libc::STDOUT_FILENO;
 use listing::Put;
-use refusal::Verdict;
 use reporter::CARD_BYTES;
 use reporter::Progress;
 use reporter::begin;

@@ -5,7 +5,6 @@ use mathlib.Core.Path.{_≡_, refl, sym, _∙_, ap}
 use mathlib.Core.Bool.{true, false, or-true, true≢false}
 use mathlib.Core.List.{List, [], _++_, append-assoc}
 use native.Mathlib.Omega.{arith}
-use lib.Dec.{leb, eqb}
 use lib.ListN.{length, take, drop, length-drop}
 use lib.Seq.{drop-drop}
 use borrow.Author.Tests.{leb-true, le-leb, ne-eqb}
@@ -19,10 +18,9 @@ use Rattle.matcher.specs.declared.Scan.{Scan}
 use Rattle.matcher.specs.Scan.{scanned}
 use Rattle.listing.specs.Listing.{reportLines, hasRoom}
 use Rattle.reporter.specs.declared.Progress.{Progress}
-use Rattle.reporter.specs.declared.Fed.{Fed}
 use Rattle.reporter.specs.Reporter.{lastLine, refusedLines, transcript, pending, mostComparisons, totalFits}
 use Rattle.reporter.specs.Calls.{stopped, Feeds}
-use Rattle.reporter.proofs.Transcript.{after, Ran, ran}
+use Rattle.reporter.proofs.Transcript.{after, ran}
 use Rattle.reporter.proofs.Putting.{PutAt}
 
 -- What a call of scan on the chunk from a place on has done.
@@ -94,8 +92,10 @@ along-begin p input from entry at f =
       fits = leb-true _ _ f;
     }
 
-module _ (p : Progress) (input : List ℕ) (from : ℕ) (entry : List ℕ) (at : ℕ) (q : Progress) (next used : ℕ) (out : List ℕ) (a : Along p input from entry at q next used out) (accepted : number (q .verdict) ≡ 0) (more : next < length input) where
-  module _ (s : Scan) (g : Went (q .matcher) input next s) (end : ℕ) (exit : List ℕ) (same : length exit ≡ length out) (u : PutAt out used (reportLines (s .matcher .now .at) (s .answer)) end exit) where
+module _ (p : Progress) (input : List ℕ) (from : ℕ) (entry : List ℕ) (at : ℕ) (q : Progress) (next used : ℕ) (out : List ℕ)
+    (a : Along p input from entry at q next used out) (accepted : number (q .verdict) ≡ 0) (more : next < length input) where
+  module _ (s : Scan) (g : Went (q .matcher) input next s) (end : ℕ) (exit : List ℕ) (same : length exit ≡ length out)
+      (u : PutAt out used (reportLines (s .matcher .now .at) (s .answer)) end exit) where
     turn-lines :
         (rest : List ℕ)
         → take used out ++ pending q (drop next input ++ rest)
@@ -168,12 +168,12 @@ feeds f a e =
       idle = λ h. absurd (true≢false (sym f ∙ h));
     }
 
--- where nothing is taken: the total is none that the bytes taken can have, or something was refused
+-- where the total is none that the bytes taken can have, nothing is taken
 pub feeds-none :
     (p : Progress) (input : List ℕ) (from : ℕ) (entry : List ℕ) (at : ℕ)
-    → (totalFits p ≡ true → number (p .verdict) ≡ 0 → ⊥)
+    → totalFits p ≡ false
     → Feeds p input from entry at (record { progress = p; next = from; used = at }) entry
-feeds-none p input from entry at e =
+feeds-none p input from entry at f =
     record {
       lines = λ rest. refl;
       behind = refl;
@@ -181,8 +181,8 @@ feeds-none p input from entry at e =
       onward = omega arith;
       counted = refl;
       fits = λ h. h;
-      stops = λ h. stop {input = input} {q = p} {next = from} {used = at} {out = entry} (refused (e h));
-      moves = λ h o. absurd (e h o);
+      stops = λ h. absurd (true≢false (sym h ∙ f));
+      moves = λ h. absurd (true≢false (sym h ∙ f));
       idle = λ h. refl;
     }
 

@@ -14,7 +14,7 @@ use Rattle.listing.specs.declared.Put.{Put}
 use Rattle.listing.specs.declared.Put.the-variants.{Full, Next}
 use Rattle.listing.specs.Listing.{line, lineX, room, hasRoom, placed, written}
 use Rattle.listing.proofs.Decimal.{decimal-length}
-use Rattle.reporter.specs.Calls.{hasLastRoom, lastPlaced, lastWritten}
+use Rattle.reporter.specs.Calls.{lastPlaced, lastWritten}
 
 -- The lines stand at their place, behind what stood in front, and what stood behind them is as it was.
 pub record PutAt (entry : List ℕ) (at : ℕ) (lines : List ℕ) (end : ℕ) (exit : List ℕ) : Type 0 where

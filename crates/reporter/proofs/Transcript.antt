@@ -1,13 +1,13 @@
 -- What is printed of a run of strokes: the lines of its last answer, and then what is printed from the watch behind it on.
 -- Assumes nothing.
 use Prim.Native.Nat.{ℕ, suc, _+_, _*_, _≤_, _<_}
-use mathlib.Core.Path.{_≡_, refl, sym, _∙_, ap}
-use mathlib.Core.Bool.{true, false, cond, true≢false}
+use mathlib.Core.Path.{_≡_, refl, sym, _∙_}
+use mathlib.Core.Bool.{true, cond, true≢false}
 use mathlib.Core.List.{List, [], _∷_, _++_, flatMap}
 use native.Mathlib.Nat.{add-assoc, add-zero}
 use native.Mathlib.Omega.{arith}
-use lib.Dec.{eqb, ltb}
-use lib.ListN.{length, take, drop}
+use lib.Dec.{eqb}
+use lib.ListN.{length, drop}
 use borrow.Author.Tests.{eqb-true, eqb-false}
 use Rattle.ladder.proofs.Levels.{levels-bound}
 use Rattle.sequence.proofs.Laws.{and-left, and-right}
@@ -15,7 +15,7 @@ use Rattle.matcher.specs.declared.Ring.{Ring}
 use Rattle.matcher.specs.declared.Ring.the-variants.{Silent, At}
 use Rattle.matcher.specs.declared.Matcher.{Matcher}
 use Rattle.matcher.specs.declared.Answer.{Answer}
-use Rattle.matcher.specs.Matcher.{maxTaken, matcherFits}
+use Rattle.matcher.specs.Matcher.{matcherFits}
 use Rattle.matcher.specs.Stroke.{noAnswer, strokeRefusal, strokeAnswer, afterStroke}
 use Rattle.matcher.specs.Scan.{silentRing, silent, Scanned, onward, scanned}
 use Rattle.matcher.proofs.Cases.{by-test}

@@ -1,8 +1,7 @@
 -- Whatever the chunks in which the input comes, what a run of the program writes is the output of the whole input.
 -- Assumes nothing.
 use Prim.Native.Nat.{ℕ, _+_, _≤_}
-use mathlib.Core.Path.{_≡_, refl, sym, _∙_, ap}
-use mathlib.Core.Bool.{true, false, cond}
+use mathlib.Core.Path.{_≡_, sym, _∙_, ap}
 use mathlib.Core.Logic.{_⊎_, inl, inr}
 use mathlib.Core.List.{List, [], _++_, append-assoc, append-nil}
 use native.Mathlib.Omega.{arith}
@@ -18,7 +17,7 @@ use Rattle.record.specs.Layout.{lengthField, signatureKind}
 use Rattle.record.specs.Calls.{headRefusal, signatureLeast, readRefusal, readSignature, readTaken}
 use Rattle.reporter.specs.declared.Begun.{Begun}
 use Rattle.reporter.specs.Reporter.{cardBytes, front, output, pending}
-use Rattle.reporter.specs.Calls.{Begins, Feeds}
+use Rattle.reporter.specs.Calls.{Begins}
 use Rattle.reporter.proofs.Putting.{last-at}
 use Rattle.reporter.specs.Run.{Standing, Run, begins, takes, writes, reads, Over, over}
 

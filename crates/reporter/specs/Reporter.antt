@@ -3,14 +3,14 @@
 use Prim.Native.Nat.{ℕ, suc, _+_, _*_}
 use mathlib.Core.Bool.{Bool, cond}
 use mathlib.Core.List.{List, [], _∷_, _++_}
-use lib.ListN.{length, take, drop}
+use lib.ListN.{take, drop}
 use lib.Dec.{leb, eqb}
 use Rattle.refusal.specs.Number.{number}
 use Rattle.matcher.specs.declared.Matcher.{Matcher}
 use Rattle.matcher.specs.Matcher.{fresh}
 use Rattle.matcher.specs.Stroke.{strokeRefusal, strokeAnswer, afterStroke}
 use Rattle.record.specs.Calls.{readRefusal, readSignature, readTaken}
-use Rattle.listing.specs.Listing.{lineX, lineE, reportLines, room}
+use Rattle.listing.specs.Listing.{lineX, lineE, reportLines}
 use Rattle.reporter.specs.declared.Progress.{Progress}
 
 -- "last `E t total`, total being all comparisons"

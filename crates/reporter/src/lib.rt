@@ -96,14 +96,6 @@ impl Progress {
 pub fn feed(progress: Progress, input: &[u8], from: usize, out: &mut [u8], at: usize) -> Fed
     ensures { λ r. ⌜ Feeds progress (now (input .entry)) from (now (out .entry)) at r (now (out .exit)) ⌝ }
 {
-    let before = progress.verdict;
-    if let Verdict::Refused(_) = before {
-        return Fed {
-            progress,
-            next: from,
-            used: at,
-        };
-    }
     if !progress.fits() {
         return Fed {
             progress,
@@ -114,7 +106,7 @@ pub fn feed(progress: Progress, input: &[u8], from: usize, out: &mut [u8], at: u
     let mut p = progress;
     let mut next = from;
     let mut used = at;
-    while next < input.len() {
+    while next < input.len() && p.goes_on() {
         let w = p.matcher;
         let scan = w.scan(input, next);
         let matcher = scan.matcher;
@@ -136,13 +128,6 @@ pub fn feed(progress: Progress, input: &[u8], from: usize, out: &mut [u8], at: u
         };
         next = scan.next;
         used = end;
-        if let Verdict::Refused(_) = verdict {
-            return Fed {
-                progress: p,
-                next,
-                used,
-            };
-        }
     }
     Fed {
         progress: p,

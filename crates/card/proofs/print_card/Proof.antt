@@ -15,11 +15,6 @@ use Rattle.record.specs.Calls.{putUsed}
 use borrow.Author.Needs.{needs}
 use Rattle.card.proofs.print_card.Statement.{statement}
 use Rattle.card.proofs.print_card.Tie as tie
-use Rattle.card.proofs.print_card.Reads as reads
-use Rattle.card.proofs.print_card.Lts as lts
-use Rattle.io.proofs.buffer.Reads as buffer-reads
-use Rattle.io.proofs.write_all.Reads as write-all-reads
-use Rattle.record.proofs.write_signature.Reads as write-signature-reads
 
 used-within : (fits : Bool) (bytes entry : List ℕ) → putUsed fits bytes entry ≤ length entry
 used-within fits bytes entry =

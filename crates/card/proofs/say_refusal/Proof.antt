@@ -8,11 +8,6 @@ use Rattle.listing.proofs.Room.{next-within}
 use borrow.Author.Needs.{needs}
 use Rattle.card.proofs.say_refusal.Statement.{statement}
 use Rattle.card.proofs.say_refusal.Tie as tie
-use Rattle.card.proofs.say_refusal.Reads as reads
-use Rattle.card.proofs.say_refusal.Lts as lts
-use Rattle.io.proofs.buffer.Reads as buffer-reads
-use Rattle.io.proofs.write_all.Reads as write-all-reads
-use Rattle.listing.proofs.put_refusal.Reads as put-refusal-reads
 
 -- the place behind the line
 ends : (c : tie.After-put) → c .put .given .0 .0 ≤ length (c .before .before .before .put-refusal .last .0)

@@ -1,12 +1,10 @@
 -- `maker::key_of` meets its contract.
-use Prim.Native.Nat.{ℕ, min}
+use Prim.Native.Nat.{min}
 use mathlib.Core.Path.{_≡_}
 use native.Mathlib.Omega.{arith}
 use borrow.Author.Needs.{needs}
 use Rattle.maker.proofs.key_of.Statement.{statement}
 use Rattle.maker.proofs.key_of.Tie as tie
-use Rattle.maker.proofs.key_of.Reads as reads
-use Rattle.maker.proofs.key_of.Lts as lts
 
 returns : tie.Need-returns
 returns c =

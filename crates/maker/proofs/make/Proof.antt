@@ -1,24 +1,20 @@
 -- `maker::make` meets its contract: the maker is led through the passage byte by byte.
 use Prim.Native.Nat.{ℕ, _-_, _≤_}
-use mathlib.Core.Path.{_≡_, refl, sym, _∙_, ap}
+use mathlib.Core.Path.{_≡_, sym, _∙_, ap}
+use mathlib.Core.List.{List}
 use native.Mathlib.Omega.{arith}
 use lib.ListN.{length, take}
 use lib.Seq.{take-all}
 use borrow.Author.Needs.{needs}
+use Rattle.refusal.specs.declared.Verdict.the-variants.{Accepted}
 use Rattle.refusal.specs.Number.{number}
+use Rattle.fingerprint.specs.declared.Key.{Key}
 use Rattle.signature.specs.Made.{Making}
 use Rattle.maker.specs.Maker.{makeRefusal}
 use Rattle.signature.specs.Signature.{signatureOf}
-use Rattle.maker.proofs.Passage.{refused-some, begin-number, begin-accepted, begin-key, begin-making, more, given, made-none, made-own}
+use Rattle.maker.proofs.Passage.{refused-some, Began, begin-number, began, more, given, made-none, made-own}
 use Rattle.maker.proofs.make.Statement.{statement}
 use Rattle.maker.proofs.make.Tie as tie
-use Rattle.maker.proofs.make.Reads as reads
-use Rattle.maker.proofs.make.Lts as lts
-use Rattle.maker.proofs.told.Reads as told-reads
-use Rattle.signature.proofs.Builder.begin.Reads as begin-reads
-use Rattle.signature.proofs.Builder.finish.Reads as finish-reads
-use Rattle.signature.proofs.Builder.push.Reads as push-reads
-use Rattle.signature.proofs.Signature.none.Reads as none-reads
 
 abbrev Inv-loop : tie.InvT-loop
 Inv-loop passage builder₀ i₀ builder i = Making (length passage) (builder₀ .key) (take i passage) builder × (i ≤ length passage)
@@ -26,10 +22,22 @@ Inv-loop passage builder₀ i₀ builder i = Making (length passage) (builder₀
 abbrev μ-loop : tie.MeasureT-loop
 μ-loop passage builder₀ i₀ builder i = length passage - i
 
--- what beginning told, where it is accepted
-begun-number : (c : tie.After-begin Inv-loop μ-loop) → number (c .begin .result .verdict) ≡ makeRefusal (c .before .before .before .args .key) (c .before .before .before .args .passage .now)
-begun-number c =
-    begin-number (length (c .before .before .before .args .passage .now)) (c .before .before .before .args .key) (c .begin .result .verdict) (c .before .told .result) (c .before .told .ensures) (c .begin .ensures .0)
+-- the function's begin, and what beginning the card tells
+abbrev start : tie.After-begin Inv-loop μ-loop → tie.Start Inv-loop μ-loop
+start c = c .before .before .before
+
+module _ (c : tie.After-begin Inv-loop μ-loop) where
+  abbrev passage : List ℕ
+  passage = start c .args .passage .now
+
+  abbrev key : Key
+  key = start c .args .key
+
+  begun-number : number (c .begin .result .verdict) ≡ makeRefusal key passage
+  begun-number = begin-number (length passage) key (c .begin .result .verdict) (c .before .told .result) (c .before .told .ensures) (c .begin .ensures .0)
+
+  began-with : c .begin .result .verdict ≡ Accepted → Began (length passage) key (c .begin .result .builder)
+  began-with = began _ _ _ _ (c .before .told .ensures) (c .begin .ensures .0) _ (c .begin .ensures .1)
 
 told-requires : tie.Need-told-requires Inv-loop μ-loop
 told-requires c κs = search needs
@@ -53,7 +61,9 @@ enum-told-2 : tie.Need-enum-told-2 Inv-loop μ-loop
 enum-told-2 c = search needs
 
 loop-holds : tie.Need-loop-holds Inv-loop μ-loop
-loop-holds c = (begin-making _ _ _ _ (c .before .before .before .before .told .ensures) (c .before .before .before .begin .ensures .0) _ (c .before .enum-told2 .given .1) (c .before .before .before .begin .ensures .1), omega arith)
+loop-holds c =
+    let b = c .before .before .before in
+    (began-with b (c .before .enum-told2 .given .1) .making, omega arith)
 
 shared-slice-read-push : tie.Need-shared-slice-read-push Inv-loop μ-loop
 shared-slice-read-push c = omega arith
@@ -70,7 +80,8 @@ loop-less c = omega arith
 loop-again : tie.Need-loop-again Inv-loop μ-loop
 loop-again c =
     let l = c .before .before .before .before .loop in
-    (rw (c .before .push .ensures .1) (more _ _ (l .i) (l .builder) (l .inv .0) (omega arith) (omega (arith, c .before .before .shared-slice-known2 .given (l .i)))), omega arith)
+    let byte = c .before .before .shared-slice-known2 .given (l .i) in
+    (rw (c .before .push .ensures .1) (more _ _ (l .i) (l .builder) (l .inv .0) (omega arith) (omega (arith, byte))), omega arith)
 
 finish-requires : tie.Need-finish-requires Inv-loop μ-loop
 finish-requires c κs = search needs
@@ -78,14 +89,16 @@ finish-requires c κs = search needs
 returns-2 : tie.Need-returns-2 Inv-loop μ-loop
 returns-2 c =
     let l = c .before .before .loop in
-    let b = c .before .before .before .before .before .before in
-    let told = b .before .told .ensures in
-    let ok = begin-accepted _ _ _ _ told (b .begin .ensures .0) _ (c .before .before .before .before .enum-told2 .given .1) (b .begin .ensures .1) in
-    let key = begin-key _ _ _ _ told (b .begin .ensures .0) _ (c .before .before .before .before .enum-told2 .given .1) (b .begin .ensures .1) in
-    let a = c .before .before .before .before .before .before .before .before .before .args in
-    let whole = rw (take-all (l .i) _ (c .before .loop-test .left)) at (l .inv .0) in
-    let g = given _ _ (l .builder) whole in
-    (c .finish .ensures .0 ∙ g .0 ∙ sym ok, c .finish .ensures .1 ∙ g .1 ∙ ap (λ k. signatureOf k (a .passage .now)) key ∙ sym (made-own (a .key) (a .passage .now) ok))
+    let t = c .before .before .before .before in
+    let b = t .before .before in
+    let q = began-with b (t .enum-told2 .given .1) in
+    let g = given _ _ (l .builder) (rw (take-all (l .i) _ (c .before .loop-test .left)) at (l .inv .0)) in (
+      c .finish .ensures .0 ∙ g .0 ∙ sym (q .accepted),
+      c .finish .ensures .1
+          ∙ g .1
+          ∙ ap (λ k. signatureOf k (passage b)) (q .same-key)
+          ∙ sym (made-own (key b) (passage b) (q .accepted)),
+    )
 
 pub make-spec : {M : Type 1} → statement M
 make-spec =

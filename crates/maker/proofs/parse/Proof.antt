@@ -8,8 +8,6 @@ use Rattle.maker.specs.Argument.{parsed, digitsFrom}
 use Rattle.maker.proofs.Digits.{Read, read-none, read-all, read-bad, read-more, fits, low, high, too-short, too-long, good-length}
 use Rattle.maker.proofs.parse.Statement.{statement}
 use Rattle.maker.proofs.parse.Tie as tie
-use Rattle.maker.proofs.parse.Reads as reads
-use Rattle.maker.proofs.parse.Lts as lts
 
 abbrev Inv-loop : tie.InvT-loop
 Inv-loop text value₀ i₀ value i = Read text value i
@@ -34,16 +32,23 @@ shared-slice-read-c : tie.Need-shared-slice-read-c Inv-loop μ-loop
 shared-slice-read-c c = omega arith
 
 returns-3 : tie.Need-returns-3 Inv-loop μ-loop
-returns-3 c = sym (digits (c .before .before .before .before) ∙ read-bad _ _ _ (c .before .before .before .loop .inv) (c .before .before .loop-test .taken) (low _ (c .if3 .taken)))
+returns-3 c =
+    let t = c .before .before in
+    sym (digits (t .before .before) ∙ read-bad _ _ _ (t .before .loop .inv) (t .loop-test .taken) (low _ (c .if3 .taken)))
 
 returns-4 : tie.Need-returns-4 Inv-loop μ-loop
-returns-4 c = sym (digits (c .before .before .before .before .before) ∙ read-bad _ _ _ (c .before .before .before .before .loop .inv) (c .before .before .before .loop-test .taken) (high _ (c .if4 .taken)))
+returns-4 c =
+    let t = c .before .before .before in
+    sym (digits (t .before .before) ∙ read-bad _ _ _ (t .before .loop .inv) (t .loop-test .taken) (high _ (c .if4 .taken)))
 
 -- the next value fits 64 bits
 room :
     (c : tie.Else4 Inv-loop μ-loop)
-    → 10 * c .before .before .before .before .loop .value + (getD (c .before .before .before .before .before .before .before .args .text .now) (c .before .before .before .before .loop .i) 0 - 48) < 2 ^ 64
-room c = fits _ _ _ (c .before .before .before .before .loop .inv) (c .before .before .before .loop-test .taken) (c .before .before .before .before .before .if2 .left) (omega arith)
+    → let l = c .before .before .before .before in
+    10 * l .loop .value + (getD (l .before .before .before .args .text .now) (l .loop .i) 0 - 48) < 2 ^ 64
+room c =
+    let t = c .before .before .before in
+    fits _ _ _ (t .before .loop .inv) (t .loop-test .taken) (t .before .before .if2 .left) (omega arith)
 
 mul-value : tie.Need-mul-value Inv-loop μ-loop
 mul-value c = omega (arith, room c)
@@ -61,7 +66,9 @@ loop-less : tie.Need-loop-less Inv-loop μ-loop
 loop-less c = omega arith
 
 loop-again : tie.Need-loop-again Inv-loop μ-loop
-loop-again c = read-more _ _ _ (c .before .before .before .before .loop .inv) (c .before .before .before .loop-test .taken) (c .before .if3 .left) (c .if4 .left)
+loop-again c =
+    let t = c .before .before .before in
+    read-more _ _ _ (t .before .loop .inv) (t .loop-test .taken) (c .before .if3 .left) (c .if4 .left)
 
 returns-5 : tie.Need-returns-5 Inv-loop μ-loop
 returns-5 c = sym (digits (c .before .before) ∙ read-all _ _ _ (c .before .loop .inv) (c .loop-test .left))

@@ -1,28 +1,21 @@
 -- `report::pass` meets its contract: each turn writes what the buffer holds, and then a byte is taken or refused.
-use Prim.Native.Nat.{ℕ, _+_, _-_, _≤_, _<_}
+use Prim.Native.Nat.{ℕ, _+_, _≤_}
 use mathlib.Core.Path.{_≡_, refl, sym, _∙_}
-use mathlib.Core.Bool.{Bool, true, false, cond, true≢false}
+use mathlib.Core.Bool.{Bool, false, true≢false}
 use mathlib.Core.List.{List}
 use native.Mathlib.Omega.{arith}
-use lib.Dec.{eqb}
 use lib.ListN.{length}
 use lib.Seq.{length-take-le}
 use borrow.Author.Needs.{needs}
 use borrow.Author.Tests.{le-leb, eqb-true, not-false}
-use Rattle.refusal.specs.Number.{number}
-use Rattle.matcher.proofs.Cases.{by-test}
 use Rattle.listing.specs.Listing.{room}
 use Rattle.reporter.specs.declared.Progress.{Progress}
 use Rattle.reporter.specs.declared.Fed.{Fed}
 use Rattle.reporter.specs.Calls.{Feeds}
+use Rattle.reporter.proofs.Nearer.{left, left-falls}
 use Rattle.report.specs.State.{Ready, Passed}
 use Rattle.report.proofs.pass.Statement.{statement}
 use Rattle.report.proofs.pass.Tie as tie
-use Rattle.report.proofs.pass.Reads as reads
-use Rattle.report.proofs.pass.Lts as lts
-use Rattle.io.proofs.write_all.Reads as write-all-reads
-use Rattle.reporter.proofs.Progress.goes_on.Reads as goes-on-reads
-use Rattle.reporter.proofs.feed.Reads as feed-reads
 
 -- what holds at the loop's head, since its begin
 record Held (out₀ out : List ℕ) (p₀ p : Progress) (next₀ next end : ℕ) : Type 0 where
@@ -49,64 +42,54 @@ fed-ready p input from entry at r exit a f e =
 emptied : {p : Progress} {out : List ℕ} {used : ℕ} → Ready p out used → Ready p out 0
 emptied a = record { total = a .total; size = a .size; within = omega arith }
 
--- what a refusal or a byte taken brings the loop nearer to its end
-nearer : (n next : ℕ) (p : Progress) → ℕ
-nearer n next p = n - next + cond (eqb (number (p .verdict)) 0) 1 0
-
-nearer-falls :
-    (n next next′ : ℕ) (p p′ : Progress)
-    → next < n
-    → next ≤ next′
-    → number (p .verdict) ≡ 0
-    → (number (p′ .verdict) ≡ 0 → next < next′)
-    → nearer n next′ p′ < nearer n next p
-unfolding nearer
-nearer-falls n next next′ p p′ l o a m =
-    by-test (eqb (number (p′ .verdict)) 0)
-    (λ e. rw (a, e) (omega (arith, m (eqb-true _ _ e))))
-    (λ e. rw (a, e) (omega arith))
-
 abbrev Inv-loop : tie.InvT-loop
 Inv-loop chunk from out₀ used p₀ next₀ end₀ out p next end = Held out₀ out p₀ p next₀ next end
 
 abbrev μ-loop : tie.MeasureT-loop
-μ-loop chunk from out₀ used p₀ next₀ end₀ out p next end = nearer (length chunk) next p
+μ-loop chunk from out₀ used p₀ next₀ end₀ out p next end = left (length chunk) next p
 
--- the buffer keeps its length
-same : (c : tie.At-loop Inv-loop μ-loop) → length (c .loop .out) ≡ length (c .before .before .before .before .before .before .before .before .args .out .now)
-same c = c .loop .inv .size ∙ c .before .before .before .before .feed .kept .1 .1 .1 .0
+-- the places: the function's begin, and behind the first call of feed
+abbrev start : tie.At-loop Inv-loop μ-loop → tie.Start Inv-loop μ-loop
+start c = c .before .before .before .before .before .before .before .before
 
--- t does not fall
-risen :
-    (c : tie.At-loop Inv-loop μ-loop) → c .before .before .before .before .before .before .before .before .args .progress .matcher .now .at ≤ c .loop .p .matcher .now .at
-risen c =
-    let f = c .before .before .before .before .feed .ensures in
-    omega (arith, f .counted, f .onward, c .loop .inv .onward, c .loop .inv .counted)
+abbrev fed : tie.At-loop Inv-loop μ-loop → tie.After-feed Inv-loop μ-loop
+fed c = c .before .before .before .before
 
--- where the chunk is used up, t has risen by its length
-all-taken :
-    (c : tie.At-loop Inv-loop μ-loop)
-    → length (c .before .before .before .before .before .before .before .before .args .chunk .now) ≤ c .loop .next
-    → c .before .before .before .before .before .before .before .before .args .progress .matcher .now .at + length (c .before .before .before .before .before .before .before .before .args .chunk .now)
-    ≤ c .loop .p .matcher .now .at + c .before .before .before .before .before .before .before .before .args .from
-all-taken c l = omega (arith, c .before .before .before .before .feed .ensures .counted, c .loop .inv .counted)
+module _ (c : tie.At-loop Inv-loop μ-loop) where
+  -- the buffer keeps its length
+  same : length (c .loop .out) ≡ length (start c .args .out .now)
+  same = c .loop .inv .size ∙ fed c .feed .kept .1 .1 .1 .0
 
--- nothing more is read
-stopped-reading :
-    (c : tie.At-loop Inv-loop μ-loop) {out : List ℕ} {used : ℕ} {writable : Bool}
-    → Ready (c .loop .p) out used
-    → Passed (c .before .before .before .before .before .before .before .before .args .progress) (c .before .before .before .before .before .before .before .before .args .chunk .now) (c .before .before .before .before .before .before .before .before .args .from)
-    (record { progress = c .loop .p; used = used; reading = false; writable = writable }) out
-stopped-reading c r = record { ready = r; onward = risen c; all = λ w. absurd (true≢false (sym w)) }
+  -- t does not fall
+  risen : start c .args .progress .matcher .now .at ≤ c .loop .p .matcher .now .at
+  risen =
+      let f = fed c .feed .ensures in
+      omega (arith, f .counted, f .onward, c .loop .inv .onward, c .loop .inv .counted)
+
+  -- where the chunk is used up, t has risen by its length
+  all-taken :
+      length (start c .args .chunk .now) ≤ c .loop .next
+      → start c .args .progress .matcher .now .at + length (start c .args .chunk .now)
+      ≤ c .loop .p .matcher .now .at + start c .args .from
+  all-taken l = omega (arith, fed c .feed .ensures .counted, c .loop .inv .counted)
+
+  -- nothing more is read
+  stopped-reading :
+      {out : List ℕ} {used : ℕ} {writable : Bool}
+      → Ready (c .loop .p) out used
+      → Passed (start c .args .progress) (start c .args .chunk .now) (start c .args .from)
+      (record { progress = c .loop .p; used = used; reading = false; writable = writable }) out
+  stopped-reading r = record { ready = r; onward = risen; all = λ w. absurd (true≢false (sym w)) }
 
 feed-requires : tie.Need-feed-requires Inv-loop μ-loop
 feed-requires c κs = search needs
 
 loop-holds : tie.Need-loop-holds Inv-loop μ-loop
 loop-holds c =
+    let f = c .before .before .before in
     record {
       size = refl;
-      ready = fed-ready _ _ _ _ _ _ _ (c .before .before .before .before .before .before .before .pre) (c .before .before .before .feed .ensures) (c .before .before .before .feed .kept .1 .1 .1 .0);
+      ready = fed-ready _ _ _ _ _ _ _ (f .before .before .before .before .pre) (f .feed .ensures) (f .feed .kept .1 .1 .1 .0);
       onward = omega arith;
       counted = refl;
     }
@@ -133,19 +116,20 @@ same-length-2 : tie.Need-same-length-2 Inv-loop μ-loop
 same-length-2 c = same (c .before .before .before .before .before .before)
 
 returns-2 : tie.Need-returns-2 Inv-loop μ-loop
-returns-2 c = stopped-reading (c .before .before .before .before .before .before) (emptied (c .before .before .before .before .before .before .loop .inv .ready))
+returns-2 c = let l = c .before .before .before .before .before .before in stopped-reading l (emptied (l .loop .inv .ready))
 
 feed-requires-2 : tie.Need-feed-requires-2 Inv-loop μ-loop
 feed-requires-2 c κs = search needs
 
 loop-less : tie.Need-loop-less Inv-loop μ-loop
 loop-less c =
-    let l = c .before .before .before .before .before .before .before .before .before .before .before in
     let f = c .before .before .before .feed2 .ensures in
-    let goes = eqb-true _ _ (sym (c .before .before .before .before .before .before .before .before .before .goes-on .ensures) ∙ not-false _ (c .before .before .before .before .before .before .before .before .if1 .left)) in
-    let more = c .before .before .before .before .before .before .before .before .before .before .loop-test .taken in
+    let t = c .before .before .before .before .before .before .before .before in
+    let l = t .before .before .before in
+    let goes = eqb-true _ _ (sym (t .before .goes-on .ensures) ∙ not-false _ (t .if1 .left)) in
+    let more = t .before .before .loop-test .taken in
     let roomy = le-leb (0 + room) (length (l .loop .out)) (omega (arith, l .loop .inv .ready .size)) in
-    nearer-falls _ _ _ _ _ more (f .onward) goes (f .moves (l .loop .inv .ready .total) goes more roomy)
+    left-falls _ _ _ _ _ more (f .onward) goes (f .moves (l .loop .inv .ready .total) goes more roomy)
 
 loop-again : tie.Need-loop-again Inv-loop μ-loop
 loop-again c =

@@ -7,27 +7,19 @@ use Rattle.io.proofs.Counting.{counts}
 use borrow.Author.Needs.{needs}
 use Rattle.report.proofs.read_front.Statement.{statement}
 use Rattle.report.proofs.read_front.Tie as tie
-use Rattle.report.proofs.read_front.Reads as reads
-use Rattle.report.proofs.read_front.Lts as lts
-use Rattle.io.proofs.read_full.Reads as read-full-reads
 
--- src/main.rt:31:33
 slice-relend-prefix-read-full : tie.Need-slice-relend-prefix-read-full
 slice-relend-prefix-read-full c = search needs
 
--- src/main.rt:31:33
 slice-aggregate-read-full : tie.Need-slice-aggregate-read-full
 slice-aggregate-read-full c = sym (length-take-le 98 (c .before .before .args .input .now) (c .before .before .pre))
 
--- src/main.rt:31:5
 read-full-requires : tie.Need-read-full-requires
 read-full-requires c κs = search needs
 
--- src/main.rt:27:1
 same-length : tie.Need-same-length
 same-length c = search needs
 
--- src/main.rt:27:1
 returns : tie.Need-returns
 returns c = counts _ _ (rw length-append (omega (arith, c .before .before .read-full .ensures .0)))
 

@@ -1,27 +1,17 @@
 -- `report::run` meets its contract: with each chunk t comes nearer to its limit, or writing has failed, or something was refused.
 use Prim.Native.Nat.{ℕ, _+_, _-_, _^_, _≤_, _<_}
-use mathlib.Core.Path.{_≡_, refl, sym, _∙_}
-use mathlib.Core.Bool.{true, false, cond, _&&_}
+use mathlib.Core.Path.{_≡_, refl, _∙_}
+use mathlib.Core.Bool.{true, cond}
 use mathlib.Core.List.{List}
 use native.Mathlib.Omega.{arith}
-use lib.Dec.{eqb}
 use lib.ListN.{length}
 use borrow.Author.Needs.{needs}
-use borrow.Author.Tests.{le-leb, eqb-true, not-false}
-use Rattle.refusal.specs.Number.{number}
+use borrow.Author.Tests.{le-leb}
 use Rattle.matcher.proofs.Cases.{by-test}
 use Rattle.report.specs.declared.State.{State}
-use Rattle.report.specs.State.{Ready, Passed}
+use Rattle.report.specs.State.{Ready}
 use Rattle.report.proofs.run.Statement.{statement}
 use Rattle.report.proofs.run.Tie as tie
-use Rattle.report.proofs.run.Reads as reads
-use Rattle.report.proofs.run.Lts as lts
-use Rattle.report.proofs.pass.Reads as pass-reads
-use Rattle.report.proofs.read_front.Reads as read-front-reads
-use Rattle.report.proofs.read_more.Reads as read-more-reads
-use Rattle.report.proofs.write_last.Reads as write-last-reads
-use Rattle.reporter.proofs.Progress.goes_on.Reads as goes-on-reads
-use Rattle.reporter.proofs.begin.Reads as begin-reads
 
 -- what holds at the loop's head, since its begin
 record Held (input₀ out₀ input out : List ℕ) (s : State) : Type 0 where
@@ -51,12 +41,22 @@ Inv-loop input₀ out₀ n s₀ input out s = Held input₀ out₀ input out s
 abbrev μ-loop : tie.MeasureT-loop
 μ-loop input₀ out₀ n s₀ input out s = distance s
 
+-- the places: behind the first chunk, and behind the card's bytes
+abbrev passed : tie.At-loop Inv-loop μ-loop → tie.After-pass Inv-loop μ-loop
+passed c = c .before .before .before
+
+abbrev first : tie.After-pass Inv-loop μ-loop → tie.After-read-front Inv-loop μ-loop
+first c = c .before .before .before .before .before .before .before .before
+
 -- the buffers keep their lengths
 sizes :
     (c : tie.At-loop Inv-loop μ-loop)
-    → (length (c .loop .input) ≡ length (c .before .before .before .before .before .before .before .before .before .before .before .before .before .before .before .args .input .now)) × (length (c .loop .out) ≡ length (c .before .before .before .before .before .before .before .before .before .before .before .before .before .before .before .args .out .now))
-sizes c =
-    (c .loop .inv .input-size ∙ c .before .before .before .before .before .before .before .before .before .before .before .read-front .kept .0, c .loop .inv .out-size ∙ c .before .before .before .pass .kept .1 .1 .1 .0)
+    → let a = first (passed c) .before .before .before .before .args in
+    (length (c .loop .input) ≡ length (a .input .now)) × (length (c .loop .out) ≡ length (a .out .now))
+sizes c = (
+  c .loop .inv .input-size ∙ first (passed c) .read-front .kept .0,
+  c .loop .inv .out-size ∙ passed c .pass .kept .1 .1 .1 .0,
+)
 
 read-front-requires : tie.Need-read-front-requires Inv-loop μ-loop
 read-front-requires c κs = c .before .before .before .pre .0

@@ -1,14 +1,10 @@
 -- `report::turn` meets its contract: a chunk that is passed has a byte.
-use mathlib.Core.Path.{sym, _∙_}
+use mathlib.Core.Path.{sym}
 use mathlib.Core.Bool.{true≢false}
 use native.Mathlib.Omega.{arith}
 use borrow.Author.Needs.{needs}
 use Rattle.report.proofs.turn.Statement.{statement}
 use Rattle.report.proofs.turn.Tie as tie
-use Rattle.report.proofs.turn.Reads as reads
-use Rattle.report.proofs.turn.Lts as lts
-use Rattle.report.proofs.pass.Reads as pass-reads
-use Rattle.report.proofs.read_more.Reads as read-more-reads
 
 read-more-requires : tie.Need-read-more-requires
 read-more-requires c κs = search needs

@@ -7,10 +7,6 @@ use Rattle.reporter.proofs.Putting.{last-at}
 use borrow.Author.Needs.{needs}
 use Rattle.report.proofs.write_last.Statement.{statement}
 use Rattle.report.proofs.write_last.Tie as tie
-use Rattle.report.proofs.write_last.Reads as reads
-use Rattle.report.proofs.write_last.Lts as lts
-use Rattle.io.proofs.write_all.Reads as write-all-reads
-use Rattle.reporter.proofs.finish.Reads as finish-reads
 
 -- the last lines lie within the buffer
 ends : (c : tie.After-put) → c .put .given .0 .0 ≤ length (c .before .before .before .before .finish .last .1 .0)
@@ -18,62 +14,48 @@ ends c =
     let e = c .before .before .before .before .finish .ensures in
     last-at _ _ _ _ _ (sym (c .put .given .1) ∙ e .0) (e .1) .within
 
--- src/main.rt:75:38
 slice-reshare-prefix-write-all : tie.Need-slice-reshare-prefix-write-all
 slice-reshare-prefix-write-all c = search needs
 
--- src/main.rt:75:38
 slice-aggregate-write-all : tie.Need-slice-aggregate-write-all
 slice-aggregate-write-all c = sym (length-take-le (c .before .before .args .used) (c .before .before .args .out .now) (c .before .before .pre))
 
--- src/main.rt:75:9
 write-all-requires : tie.Need-write-all-requires
 write-all-requires c κs = search needs
 
--- src/main.rt:76:9
 same-length : tie.Need-same-length
 same-length c = search needs
 
--- src/main.rt:76:9
 returns : tie.Need-returns
 returns c = search needs
 
--- src/main.rt:78:9
 finish-requires : tie.Need-finish-requires
 finish-requires c κs = search needs
 
--- src/main.rt:79:22
 enum-known-put : tie.Need-enum-known-put
 enum-known-put c = search needs
 
--- src/main.rt:80:38
 slice-reshare-prefix-write-all-2 : tie.Need-slice-reshare-prefix-write-all-2
 slice-reshare-prefix-write-all-2 c = ends (c .before)
 
--- src/main.rt:80:38
 slice-aggregate-write-all-2 : tie.Need-slice-aggregate-write-all-2
 slice-aggregate-write-all-2 c = sym (length-take-le _ _ (ends (c .before .before)))
 
--- src/main.rt:80:9
 write-all-requires-2 : tie.Need-write-all-requires-2
 write-all-requires-2 c κs = search needs
 
 enum-told : tie.Need-enum-told
 enum-told c = search needs
 
--- src/main.rt:72:1
 same-length-2 : tie.Need-same-length-2
 same-length-2 c = search needs
 
--- src/main.rt:72:1
 returns-2 : tie.Need-returns-2
 returns-2 c = search needs
 
--- src/main.rt:72:1
 same-length-3 : tie.Need-same-length-3
 same-length-3 c = search needs
 
--- src/main.rt:72:1
 returns-3 : tie.Need-returns-3
 returns-3 c = search needs
 

@@ -1,149 +1,126 @@
-use Prim.Native.Nat.{_-_}
-use mathlib.Core.Path.{_≡_, refl, sym, _∙_, ap}
-use mathlib.Core.Bool.{true, true≢false}
+-- `reporter::feed` meets its contract: each turn keeps what stands in the buffer with what is still to be printed.
+use Prim.Native.Nat.{_<_}
+use mathlib.Core.Path.{_≡_, sym, _∙_}
+use mathlib.Core.Bool.{true}
 use native.Mathlib.Omega.{arith}
 use borrow.Author.Needs.{needs}
-use borrow.Author.Tests.{not-true, not-false}
+use borrow.Author.Tests.{not-true, not-false, eqb-true, eqb-false}
 use lib.ListN.{length}
 use Rattle.refusal.specs.Number.{number}
 use Rattle.reporter.specs.Reporter.{totalFits}
+use Rattle.reporter.proofs.Nearer.{left, left-falls}
 use Rattle.reporter.proofs.Putting.{put-at, put-none}
-use Rattle.reporter.proofs.Feeding.{refused-some, Went, behindScan, Along, along-begin, went, turn, feeds, feeds-none, Stop, used-up, refused, full}
+use Rattle.reporter.proofs.Feeding.{Went, went, behindScan, Along, along-begin, turn, feeds, feeds-none, used-up, refused, full}
 use Rattle.reporter.proofs.feed.Statement.{statement}
 use Rattle.reporter.proofs.feed.Tie as tie
-use Rattle.reporter.proofs.feed.Reads as reads
-use Rattle.reporter.proofs.feed.Lts as lts
-use Rattle.listing.proofs.put_report.Reads as put-report-reads
-use Rattle.matcher.proofs.Matcher.scan.Reads as scan-reads
-use Rattle.reporter.proofs.Progress.fits.Reads as fits-reads
 
 abbrev Inv-loop : tie.InvT-loop
-Inv-loop input from out₀ at p₀ next₀ used₀ out p next used =
-    Along p₀ input from out₀ at p next used out × (number (p .verdict) ≡ 0)
+Inv-loop input from out₀ at p₀ next₀ used₀ out p next used = Along p₀ input from out₀ at p next used out
 
 abbrev μ-loop : tie.MeasureT-loop
-μ-loop input from out₀ at p₀ next₀ used₀ out p next used = length input - next
+μ-loop input from out₀ at p₀ next₀ used₀ out p next used = left (length input) next p
 
--- the total fits, and nothing was refused
-total-fits : (c : tie.At-loop Inv-loop μ-loop) → totalFits (c .before .before .before .before .before .before .before .args .progress) ≡ true
+-- the places: the function's begin, and the turn's, before the scan
+abbrev start : tie.At-loop Inv-loop μ-loop → tie.Start Inv-loop μ-loop
+start c = c .before .before .before .before .before
+
+abbrev head : tie.After-scan Inv-loop μ-loop → tie.At-loop Inv-loop μ-loop
+head c = c .before .before .before .before .before
+
+-- what the tests tell
+total-fits : (c : tie.At-loop Inv-loop μ-loop) → totalFits (start c .args .progress) ≡ true
 total-fits c = sym (c .before .before .fits2 .ensures) ∙ not-false _ (c .before .if1 .left)
 
-went-on :
-    (c : tie.After-scan Inv-loop μ-loop)
-    → Went (c .before .before .before .loop .p .matcher) (c .before .before .before .before .before .before .before .before .before .before .args .input .now) (c .before .before .before .loop .next) (c .scan .result)
-went-on c = went _ _ _ _ (c .scan .ensures)
+module _ (c : tie.After-scan Inv-loop μ-loop) where
+  more : head c .loop .next < length (start (head c) .args .input .now)
+  more = c .before .before .before .before .loop-test .taken
+
+  accepted : number (head c .loop .p .verdict) ≡ 0
+  accepted = eqb-true _ _ (sym (c .before .before .before .goes-on .ensures) ∙ c .before .before .if2 .taken)
+
+  went-on : Went (head c .loop .p .matcher) (start (head c) .args .input .now) (head c .loop .next) (c .scan .result)
+  went-on = went _ _ _ _ (c .scan .ensures)
 
 -- the state behind a turn
 step :
     (c : tie.After-put Inv-loop μ-loop)
-    → Along
-    (c .before .before .before .before .before .before .before .before .before .before .before .before .before .before .before .before .before .before .args .progress)
-    (c .before .before .before .before .before .before .before .before .before .before .before .before .before .before .before .before .before .before .args .input .now)
-    (c .before .before .before .before .before .before .before .before .before .before .before .before .before .before .before .before .before .before .args .from)
-    (c .before .before .before .before .before .before .before .before .before .before .before .before .before .before .before .before .before .before .args .out .now)
-    (c .before .before .before .before .before .before .before .before .before .before .before .before .before .before .before .before .before .before .args .at)
-    (behindScan (c .before .before .before .before .before .before .before .before .before .before .before .loop .p) (c .before .before .before .before .before .before .before .before .scan .result))
-    (c .before .before .before .before .before .before .before .before .scan .result .next)
+    → let s = c .before .before .before .before .before .before .before .before in
+    let a = start (head s) .args in
+    Along (a .progress) (a .input .now) (a .from) (a .out .now) (a .at) (behindScan (head s .loop .p) (s .scan .result))
+    (s .scan .result .next)
     (c .put .given .0 .0)
     (c .before .before .before .before .put-report .last .0)
 step c =
-    let l = c .before .before .before .before .before .before .before .before .before .before .before in
-    let r = c .before .before .before .before in
-    turn _ _ _ _ _ _ _ _ _ (l .loop .inv .0) (l .loop .inv .1) (c .before .before .before .before .before .before .before .before .before .before .loop-test .taken) _ (went-on (c .before .before .before .before .before .before .before .before)) _ _ (r .put-report .kept .0)
-    (put-at _ _ _ _ (r .put-report .ensures .1) _ (sym (c .put .given .1) ∙ r .put-report .ensures .0))
+    let s = c .before .before .before .before .before .before .before .before in
+    let r = c .before .before .before .before .put-report in
+    let put = put-at _ _ _ _ (r .ensures .1) _ (sym (c .put .given .1) ∙ r .ensures .0) in
+    turn _ _ _ _ _ _ _ _ _ (head s .loop .inv) (accepted s) (more s) _ (went-on s) _ _ (r .kept .0) put
 
--- src/lib.rt:93:9
-enum-told : tie.Need-enum-told Inv-loop μ-loop
-enum-told c = search needs
-
--- src/lib.rt:93:9
-returns : tie.Need-returns Inv-loop μ-loop
-returns c = feeds-none _ _ _ _ _ (λ f. refused-some (c .enum-told .given .1))
-
-enum-told-2 : tie.Need-enum-told-2 Inv-loop μ-loop
-enum-told-2 c = search needs
-
--- src/lib.rt:99:9
 fits-requires : tie.Need-fits-requires Inv-loop μ-loop
 fits-requires c κs = search needs
 
--- src/lib.rt:100:9
-returns-2 : tie.Need-returns-2 Inv-loop μ-loop
-returns-2 c =
-    feeds-none _ _ _ _ _ (λ f. absurd (true≢false (sym f ∙ sym (c .before .fits2 .ensures) ∙ not-true _ (c .if1 .taken))))
+returns : tie.Need-returns Inv-loop μ-loop
+returns c = feeds-none _ _ _ _ _ (sym (c .before .fits2 .ensures) ∙ not-true _ (c .if1 .taken))
 
--- src/lib.rt:109:5
 loop-holds : tie.Need-loop-holds Inv-loop μ-loop
-loop-holds c =
-    (along-begin _ _ _ _ _ (sym (c .before .fits2 .ensures) ∙ not-false _ (c .if1 .left)), ap number (c .before .before .enum-told2 .given .1))
+loop-holds c = along-begin _ _ _ _ _ (sym (c .before .fits2 .ensures) ∙ not-false _ (c .if1 .left))
 
--- src/lib.rt:111:13
+goes-on-requires : tie.Need-goes-on-requires Inv-loop μ-loop
+goes-on-requires c κs = search needs
+
 scan-requires : tie.Need-scan-requires Inv-loop μ-loop
 scan-requires c κs = search needs
 
--- src/lib.rt:114:13
 put-report-requires : tie.Need-put-report-requires Inv-loop μ-loop
 put-report-requires c κs = search needs
 
--- src/lib.rt:115:23
 enum-known-put : tie.Need-enum-known-put Inv-loop μ-loop
 enum-known-put c = search needs
 
--- src/lib.rt:116:13
-enum-told-3 : tie.Need-enum-told-3 Inv-loop μ-loop
-enum-told-3 c = search needs
+enum-told : tie.Need-enum-told Inv-loop μ-loop
+enum-told c = search needs
 
--- src/lib.rt:116:13
 same-length : tie.Need-same-length Inv-loop μ-loop
-same-length c = c .before .before .before .before .put-report .kept .0 ∙ c .before .before .before .before .before .before .before .before .before .before .before .loop .inv .0 .size
-
--- src/lib.rt:116:13
-returns-3 : tie.Need-returns-3 Inv-loop μ-loop
-returns-3 c =
-    let l = c .before .before .before .before .before .before .before .before .before .before .before in
+same-length c =
     let r = c .before .before .before .before in
-    let none = put-none _ _ _ _ (r .put-report .ensures .1) (sym (c .enum-told3 .given .1) ∙ r .put-report .ensures .0) in
-    rw (none .1) (feeds (total-fits l) (l .loop .inv .0) (full (none .0)))
+    r .put-report .kept .0 ∙ head (r .before .before .before .before) .loop .inv .size
 
--- src/lib.rt:122:21
+returns-2 : tie.Need-returns-2 Inv-loop μ-loop
+returns-2 c =
+    let r = c .before .before .before .before in
+    let l = head (r .before .before .before .before) in
+    let e = r .put-report .ensures in
+    let none = put-none _ _ _ _ (e .1) (sym (c .enum-told .given .1) ∙ e .0) in
+    rw (none .1) (feeds (total-fits l) (l .loop .inv) (full (none .0)))
+
 add-total : tie.Need-add-total Inv-loop μ-loop
 add-total c =
-    let g = went-on (c .before .before .before .before .before .before .before .before .before .before .before) in
-    omega (arith, g .later, g .few, c .before .before .before .before .before .before .before .before .before .before .before .before .before .before .loop .inv .0 .fits, c .struct-known2 .given)
+    let s = c .before .before .before .before .before .before .before .before .before .before .before in
+    let g = went-on s in
+    omega (arith, g .later, g .few, head s .loop .inv .fits, c .struct-known2 .given)
 
--- src/lib.rt:132:13
-enum-told-4 : tie.Need-enum-told-4 Inv-loop μ-loop
-enum-told-4 c = search needs
-
--- src/lib.rt:132:13
-same-length-2 : tie.Need-same-length-2 Inv-loop μ-loop
-same-length-2 c = step (c .before .before .before .before .before) .size
-
--- src/lib.rt:132:13
-returns-4 : tie.Need-returns-4 Inv-loop μ-loop
-returns-4 c =
-    feeds (total-fits (c .before .before .before .before .before .before .before .before .before .before .before .before .before .before .before .before)) (step (c .before .before .before .before .before)) (refused (refused-some (c .enum-told4 .given .1)))
-
-enum-told-5 : tie.Need-enum-told-5 Inv-loop μ-loop
-enum-told-5 c = search needs
-
--- src/lib.rt:109:5
 loop-less : tie.Need-loop-less Inv-loop μ-loop
 loop-less c =
-    let moved = went-on (c .before .before .before .before .before .before .before .before .before .before .before .before .before) .moves (c .before .before .before .before .before .before .before .before .before .before .before .before .before .before .before .loop-test .taken) (ap number (c .enum-told5 .given .1)) in
-    omega (arith, moved)
+    let s = c .before .before .before .before .before .before .before .before .before .before .before in
+    let g = went-on s in
+    left-falls _ _ _ _ _ (more s) (g .onward) (accepted s) (g .moves (more s))
 
--- src/lib.rt:109:5
 loop-again : tie.Need-loop-again Inv-loop μ-loop
-loop-again c = (step (c .before .before .before .before .before), ap number (c .enum-told5 .given .1))
+loop-again c = step (c .before .before .before)
 
--- src/lib.rt:88:1
+same-length-2 : tie.Need-same-length-2 Inv-loop μ-loop
+same-length-2 c = c .before .before .before .loop .inv .size
+
+returns-3 : tie.Need-returns-3 Inv-loop μ-loop
+returns-3 c =
+    let l = c .before .before .before in
+    feeds (total-fits l) (l .loop .inv) (refused (eqb-false _ _ (sym (c .before .goes-on .ensures) ∙ c .if2 .left)))
+
 same-length-3 : tie.Need-same-length-3 Inv-loop μ-loop
-same-length-3 c = c .before .loop .inv .0 .size
+same-length-3 c = c .before .loop .inv .size
 
--- src/lib.rt:88:1
-returns-5 : tie.Need-returns-5 Inv-loop μ-loop
-returns-5 c = feeds (total-fits (c .before)) (c .before .loop .inv .0) (used-up (c .loop-test .left))
+returns-4 : tie.Need-returns-4 Inv-loop μ-loop
+returns-4 c = feeds (total-fits (c .before)) (c .before .loop .inv) (used-up (c .loop-test .left))
 
 pub feed-spec : {M : Type 1} → statement M
 feed-spec =
@@ -151,24 +128,20 @@ feed-spec =
     (tie.spec
     Inv-loop
     μ-loop
-    enum-told
-    returns
-    enum-told-2
     fits-requires
-    returns-2
+    returns
     loop-holds
+    goes-on-requires
     scan-requires
     put-report-requires
     enum-known-put
-    enum-told-3
+    enum-told
     same-length
-    returns-3
+    returns-2
     add-total
-    enum-told-4
-    same-length-2
-    returns-4
-    enum-told-5
     loop-less
     loop-again
+    same-length-2
+    returns-3
     same-length-3
-    returns-5)
+    returns-4)

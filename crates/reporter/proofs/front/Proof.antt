@@ -5,18 +5,13 @@ use lib.Seq.{take-all, length-take-le}
 use borrow.Author.Needs.{needs}
 use Rattle.reporter.proofs.front.Statement.{statement}
 use Rattle.reporter.proofs.front.Tie as tie
-use Rattle.reporter.proofs.front.Reads as reads
-use Rattle.reporter.proofs.front.Lts as lts
 
--- src/lib.rt:49:9
 returns : tie.Need-returns
 returns c = sym (take-all 98 _ (omega arith))
 
--- src/lib.rt:51:5
 slice-aggregate-result : tie.Need-slice-aggregate-result
 slice-aggregate-result c = sym (length-take-le 98 (c .before .before .args .input .now) (c .before .if1 .left))
 
--- src/lib.rt:45:1
 returns-2 : tie.Need-returns-2
 returns-2 c = search needs
 

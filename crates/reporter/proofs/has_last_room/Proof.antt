@@ -5,7 +5,6 @@ use native.Mathlib.Nat.{lt-of-not-le}
 use native.Mathlib.Decide.{decLe}
 use native.Mathlib.Omega.{arith}
 use lib.Dec.{leb}
-use borrow.Author.Needs.{needs}
 use borrow.Author.Tests.{le-leb, lt-leb}
 use Rattle.listing.specs.Listing.{room}
 use Rattle.reporter.proofs.has_last_room.Statement.{statement}
