@@ -8,8 +8,8 @@ use native.Mathlib.Omega.{arith}
 use lib.ListN.{length}
 use Rattle.fingerprint.specs.declared.Key.{Key}
 use Rattle.fingerprint.specs.declared.Fingerprint.{Fingerprint}
-use Rattle.fingerprint.specs.Fingerprint.{p, empty, pushed, extended, fp, joined, rest}
-use Rattle.fingerprint.proofs.Modular.{same-residue, mod-mul-add}
+use Rattle.fingerprint.specs.Fingerprint.{p, empty, pushed, extended, fp, joined, rest, restBy}
+use Rattle.fingerprint.proofs.Modular.{same-residue, mod-mul-add, mul-mod-right-factor}
 
 -- two fingerprints with one number are equal
 pub by-value : (f g : Fingerprint) → f .value ≡ g .value → f ≡ g
@@ -69,6 +69,11 @@ pub fp-cut : (key : Key) (u v : List ℕ) → rest key (fp key (u ++ v)) (fp key
 fp-cut key u v =
     ap (λ (f : Fingerprint). rest key f (fp key u) (length v)) (fp-join key u v)
     ∙ by-value _ _ (cut-back (fp key u .value * key .r ^ length v) (fp key v .value) (fp-below key v))
+
+-- Cutting by the residue of a power is cutting by the power.
+pub rest-by : (key : Key) (uv u : Fingerprint) (n shift : ℕ) → shift ≡ key .r ^ n % p → restBy shift uv u ≡ rest key uv u n
+rest-by key uv u n shift e =
+    rw e (ap (λ (x : ℕ). record { value = (uv .value + (p - x)) % p }) (mul-mod-right-factor p (u .value) (key .r ^ n)))
 
 -- Equal blocks have equal fingerprints.
 pub fp-equal : (key : Key) (u v : List ℕ) → u ≡ v → fp key u ≡ fp key v

@@ -22,3 +22,7 @@ odd-power r n odd =
     ∙ ap (λ (x : ℕ). x * r % p) (sym (pow-add r (n / 2) (n / 2)))
     ∙ ap (λ (x : ℕ). x % p) (sym (pow-suc r (n / 2 + n / 2)))
     ∙ ap (λ (k : ℕ). r ^ k % p) (sym (add-one (n / 2 + n / 2)) ∙ halves)
+
+-- the residue of a product of residues of powers
+pub power-product : (r m n : ℕ) → r ^ m % p * (r ^ n % p) % p ≡ r ^ (m + n) % p
+power-product r m n = mul-mod p (r ^ m) (r ^ n) ∙ ap (λ (x : ℕ). x % p) (sym (pow-add r m n))

@@ -45,3 +45,7 @@ joined key u v n = record { value = (u .value * key .r ^ n + v .value) % p }
 -- "So fp(v) comes from fp(uv), fp(u) and |v|": what is left when the front u is cut off.
 abbrev pub rest : Key → Fingerprint → Fingerprint → ℕ → Fingerprint
 rest key uv u n = record { value = (uv .value + (p - u .value * key .r ^ n % p)) % p }
+
+-- The same from r^|v|, or a number with its residue.
+abbrev pub restBy : ℕ → Fingerprint → Fingerprint → Fingerprint
+restBy shift uv u = record { value = (uv .value + (p - u .value * shift % p)) % p }

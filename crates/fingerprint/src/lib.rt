@@ -1,7 +1,7 @@
 // Karp-Rabin fingerprints of byte blocks (document 01, "Fingerprints").
 ghost use mathlib.Core.Path.{_≡_};
 ghost use Prim.Native.Nat.{_^_, _%_};
-ghost use Rattle.fingerprint.specs.Fingerprint.{p, empty, pushed, joined, rest, keyFits, printFits, same};
+ghost use Rattle.fingerprint.specs.Fingerprint.{p, empty, pushed, joined, rest, restBy, keyFits, printFits, same};
 
 // The key r, under which all fingerprints of a signature are taken.
 pub struct Key {
@@ -77,8 +77,14 @@ impl Fingerprint {
     pub fn cut(self, key: Key, front: Fingerprint, length: u64) -> Self
         ensures { λ f. ⌜ f ≡ rest key self front length ⌝ }
     {
-        let shift = key.power(length);
-        let past = (front.value as u64) * shift % Self::P;
+        self.cut_by(front, key.power(length) as u32)
+    }
+
+    // The same, where `shift` is r to the number of those bytes.
+    pub fn cut_by(self, front: Fingerprint, shift: u32) -> Self
+        ensures { λ f. ⌜ f ≡ restBy shift self front ⌝ }
+    {
+        let past = (front.value as u64) * (shift as u64) % Self::P;
         let sum = (self.value as u64) + (Self::P - past);
         Self {
             value: (sum % Self::P) as u32,

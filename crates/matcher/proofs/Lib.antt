@@ -7,3 +7,4 @@ pub mod Sound
 pub mod StrokeFits
 pub mod Quiet
 pub mod Running
+pub mod Doubling

@@ -1,33 +1,35 @@
 -- One byte's walk over the stages: what a visit makes of the walk, and what keeps every number in range on the way.
 -- Assumes nothing.
-use Prim.Native.Nat.{ℕ, zero, suc, _+_, _-_, _*_, _≤_, _<_}
+use Prim.Native.Nat.{ℕ, zero, suc, _+_, _-_, _*_, _^_, _%_, _≤_, _<_}
 use mathlib.Core.Path.{_≡_, refl, sym, _∙_, ap}
 use mathlib.Core.Bool.{Bool, true, false, cond, not, _&&_}
 use mathlib.Core.List.{List, [], _∷_}
 use native.Mathlib.Nat.{le-mul-of-pos-right, not-suc-le-zero}
 use native.Mathlib.Decide.{decLt}
-use native.Mathlib.Numerals.{sub-one, add-one}
+use native.Mathlib.Numerals.{sub-one}
 use native.Mathlib.Omega.{arith}
-use borrow.Author.Tests.{leb-true, eqb-true, eqb-false, not-true}
+use borrow.Author.Tests.{leb-true, eqb-true, eqb-false, eq-eqb, ne-eqb, not-true}
 use lib.Dec.{leb, eqb}
 use lib.ListN.{length, getD, set, length-set, List·getD-eq-default}
 use lib.Seq.{getD-set-same, getD-set-other}
 use Rattle.fingerprint.specs.declared.Key.{Key}
-use Rattle.fingerprint.specs.Fingerprint.{keyFits, printFits, same, empty}
+use Rattle.fingerprint.specs.Fingerprint.{p, keyFits, printFits, same, empty}
 use Rattle.signature.specs.Signature.{maxLength, signatureFits}
 use Rattle.ladder.specs.Prefix.{levels, prefixLength}
-use Rattle.ladder.proofs.Levels.{levels-bound, length-within}
+use Rattle.ladder.proofs.Levels.{levels-bound, length-within, first-length}
 use Rattle.sequence.proofs.Laws.{every-at, and-left, and-right}
 use Rattle.matcher.specs.declared.Mark.{Mark}
 use Rattle.matcher.specs.declared.Matcher.{Matcher}
 use Rattle.matcher.specs.declared.Stage.{Stage}
 use Rattle.matcher.specs.declared.Progression.{Progression}
 use Rattle.matcher.specs.declared.Answer.{Answer}
+use Rattle.matcher.specs.declared.Aside.{Aside}
 use Rattle.matcher.specs.declared.Aside.the-variants.{Nothing, Set}
 use Rattle.matcher.specs.declared.Round.{Round}
 use Rattle.matcher.specs.declared.Walk.{Walk}
 use Rattle.matcher.specs.Matcher.{noStage, fitsAt, stagesFit, stageFits, matcherFits}
-use Rattle.matcher.specs.Stroke.{noAnswer, withSet, withAside, compared, takenOff, entered, setsAside, allButLast, ripe, matches, promoted, promotedUnder, tried, visited, descended, walkedFrom}
+use Rattle.matcher.specs.Stroke.{noAnswer, ringing, withSet, withAside, compared, takenOff, entered, setsAside, asideOf, allButLast, ripe, matches, promoted, promotedUnder, tried, visited, descended, walkedFrom}
+use Rattle.matcher.specs.Skip.{Shifts}
 use Rattle.matcher.proofs.Cases.{by-test, each}
 use Rattle.matcher.proofs.Fit.{Fit, idle, single, several, Many, fit-of}
 
@@ -227,33 +229,71 @@ module _ (c : Round) (k n : ℕ) (before w : Walk) (pos : 0 < n) (q : Turn c k n
 
   pub turn-dropped :
       ripe c here (getD (w .stages) here noStage) ≡ true
-      → matches c (here + 1) (getD (w .stages) here noStage .first) ≡ false
+      → matches c n (getD (w .stages) here noStage .first) ≡ false
       → Turn c k here before (off (c .signature .key) here w)
   turn-dropped e f =
-      turned (off (c .signature .key) here w) (visit-dropped c here w e (rw add-one at f))
+      turned (off (c .signature .key) here w) (visit-dropped c here w e (rw next f))
       (off-midway (c .signature .key) k here (before .stages) w (q .most) (visited-small .few) to-visit)
 
-  pub turn-promoted :
+  turn-promoted :
       ripe c here (getD (w .stages) here noStage) ≡ true
-      → matches c (here + 1) (getD (w .stages) here noStage .first) ≡ true
+      → matches c n (getD (w .stages) here noStage .first) ≡ true
       → Turn c k here before
-      (promotedUnder (c .signature .key) k (here + 1) (getD (w .stages) here noStage .first) (off (c .signature .key) here w))
+      (promotedUnder (c .signature .key) k (suc here) (getD (w .stages) here noStage .first) (off (c .signature .key) here w))
   turn-promoted e f =
-      rw add-one
-      (turned _ (visit-promoted c here w e (rw add-one at f) ∙ rw (q .last))
+      (turned _ (visit-promoted c here w e (rw next f) ∙ rw (q .last))
       (promoted-midway (c .signature .key) k here (before .stages) w (q .most) (visited-small .few) to-visit _
       (promoted-keeps (c .signature .key) k (suc here) (getD (w .stages) here noStage .first) (off (c .signature .key) here w))))
 
+  -- what a match makes of the walk at the highest stage, and at another
+  pub turn-rung :
+      ripe c here (getD (w .stages) here noStage) ≡ true
+      → matches c n (getD (w .stages) here noStage .first) ≡ true
+      → n ≡ k
+      → Turn c k here before
+      (record {
+        stages = off (c .signature .key) here w .stages;
+        answer = ringing (getD (w .stages) here noStage .first .at) (compared (w .answer));
+      })
+  unfolding promotedUnder
+  turn-rung e f top = rw (next, eq-eqb n k top) at (turn-promoted e f)
+
+  pub turn-entered :
+      ripe c here (getD (w .stages) here noStage) ≡ true
+      → matches c n (getD (w .stages) here noStage .first) ≡ true
+      → (n ≡ k → ⊥)
+      → (aside : Aside) (answer : Answer)
+      → aside ≡ asideOf (c .signature .key) (getD (off (c .signature .key) here w .stages) n noStage) (getD (w .stages) here noStage .first)
+      → answer ≡ withAside aside (compared (w .answer))
+      → Turn c k here before
+      (record {
+        stages = set (off (c .signature .key) here w .stages) n (entered (c .signature .key) (getD (off (c .signature .key) here w .stages) n noStage) (getD (w .stages) here noStage .first));
+        answer = answer;
+      })
+  unfolding promotedUnder
+  turn-entered e f below aside answer g h =
+      rw (h, g, with-aside) (rw (next, ne-eqb n k below) at (turn-promoted e f))
+
+  -- the power by which the start's block is cut out
+  pub turn-shift :
+      ripe c here (getD (w .stages) here noStage) ≡ true
+      → (shifts : List ℕ) → Shifts (c .signature .key) (c .signature .length) shifts
+      → getD shifts n 0 ≡ c .signature .key .r ^ (c .now .at - getD (w .stages) here noStage .first .at) % p
+  turn-shift e shifts table =
+      let s = getD (w .stages) here noStage in
+      let age : s .first .at + prefixLength (c .signature .length) n ≡ c .now .at =
+      rw next at (eqb-true (s .first .at + prefixLength (c .signature .length) (suc here)) (c .now .at) (and-right (not (eqb (s .held) 0)) _ e)) in
+      table n (omega (arith, q .last, q .midway .within)) ∙ ap (λ (x : ℕ). c .signature .key .r ^ x % p) (omega arith)
+
   -- room for what may enter the stage above
   pub room-above :
-      (getD (set (w .stages) here (takenOff (c .signature .key) (getD (w .stages) here noStage))) (here + 1) noStage .held + 1 < 4294967296)
+      (getD (off (c .signature .key) here w .stages) n noStage .held + 1 < 4294967296)
       × (w .answer .asides < 20)
-  room-above =
-      let up : here + 1 ≡ n = omega arith in (
-        rw (up, getD-set-other (w .stages) here n (takenOff (c .signature .key) (getD (w .stages) here noStage)) noStage (omega arith))
-            (omega (arith, q .midway .few)),
-        omega (arith, q .midway .room, q .most),
-      )
+  room-above = (
+    rw (getD-set-other (w .stages) here n (takenOff (c .signature .key) (getD (w .stages) here noStage)) noStage (omega arith))
+        (omega (arith, q .midway .few)),
+    omega (arith, q .midway .room, q .most),
+  )
 
 pub turn-begin :
     (c : Round) (before : Walk) (k : ℕ) → k ≡ levels (c .signature .length) → c .signature .length ≤ 1048576
@@ -284,29 +324,50 @@ ripe-held c i s e =
     let some = not-true (eqb (s .held) 0) (and-left (not (eqb (s .held) 0)) _ e) in
     omega (arith, eqb-false (s .held) 0 some)
 
--- Once no stage is left: room for the start before the byte, and what comparing it with P_0 makes of the walk.
-module _ (c : Round) (k i : ℕ) (before w : Walk) (none-left : i ≡ 0) (q : Turn c k i before w) where
-  pub room-first : (getD (w .stages) 0 noStage .held + 1 < 4294967296) × (w .answer .asides < 20)
-  room-first =
-      let few : getD (w .stages) 0 noStage .held ≤ 1048576 = rw none-left at (q .midway .few) in
-      (omega arith, elim (decLt i k) [ yes l ↦ omega (arith, q .midway .spare l, q .most) | no l ↦ omega (arith, q .midway .room) ])
-
-  climbed : (start : Mark) → before .answer ≡ noAnswer → walkedFrom c start (before .stages) ≡ tried c 0 start w
-  unfolding walkedFrom descended
-  climbed start none =
+-- Once no stage is left: the walk is the one to be made, and there is room for the start before the byte.
+module _ (c : Round) (k i : ℕ) (before w : Walk) (none-left : i ≡ 0) (none : before .answer ≡ noAnswer) (q : Turn c k i before w) where
+  all-visited : w ≡ descended c k (record { stages = before .stages; answer = noAnswer })
+  unfolding descended
+  all-visited =
       let same : w ≡ descended c k before = rw none-left at (q .same) in
-      let first : before ≡ record { stages = before .stages; answer = noAnswer } = λ j. record { stages = before .stages; answer = none j } in
-      ap (tried c 0 start) (rw (← q .last, ← first) (sym same))
+      same ∙ ap (descended c k) (λ j. record { stages = before .stages; answer = none j })
 
-  pub climbed-dropped : (start : Mark) → before .answer ≡ noAnswer → matches c 0 start ≡ false → record { stages = w .stages; answer = compared (w .answer) } ≡ walkedFrom c start (before .stages)
+  pub turn-end :
+      (w ≡ descended c k (record { stages = before .stages; answer = noAnswer }))
+      × ((getD (w .stages) 0 noStage .held + 1 < 4294967296) × (w .answer .asides < 20) × (w .answer .comparisons ≤ 20))
+  turn-end =
+      let few : getD (w .stages) 0 noStage .held ≤ 1048576 = rw none-left at (q .midway .few) in (
+        all-visited,
+        (
+          omega arith,
+          elim (decLt i k) [ yes l ↦ omega (arith, q .midway .spare l, q .most) | no l ↦ omega (arith, q .midway .room) ],
+          omega (arith, q .midway .count, q .most),
+        ),
+      )
+
+-- What comparing the start before the byte with P_0 makes of the walk.
+module _ (c : Round) (k : ℕ) (start : Mark) (stages : List Stage) (w : Walk) (last : k ≡ levels (c .signature .length)) (e : w ≡ descended c k (record { stages = stages; answer = noAnswer })) where
+  climbed : walkedFrom c start stages ≡ tried c 0 start w
+  unfolding walkedFrom
+  climbed = rw (e, last)
+
+  pub climbed-dropped : matches c 0 start ≡ false → record { stages = w .stages; answer = compared (w .answer) } ≡ walkedFrom c start stages
   unfolding tried
-  climbed-dropped start none e = sym (climbed start none ∙ rw e)
+  climbed-dropped f = sym (climbed ∙ rw f)
 
   pub climbed-promoted :
-      (start : Mark) → before .answer ≡ noAnswer → matches c 0 start ≡ true
-      → promotedUnder (c .signature .key) k 0 start (record { stages = w .stages; answer = compared (w .answer) }) ≡ walkedFrom c start (before .stages)
+      matches c 0 start ≡ true
+      → promotedUnder (c .signature .key) k 0 start (record { stages = w .stages; answer = compared (w .answer) }) ≡ walkedFrom c start stages
   unfolding tried
-  climbed-promoted start none e = sym (climbed start none ∙ rw (e, q .last))
+  climbed-promoted f = sym (climbed ∙ rw (f, last))
+
+-- the power by which the block of one byte is cut out
+pub first-shift :
+    (c : Round) (start : Mark) (shifts : List ℕ) → 1 ≤ c .signature .length → c .now .at ≡ suc (start .at)
+    → Shifts (c .signature .key) (c .signature .length) shifts
+    → getD shifts 0 0 ≡ c .signature .key .r ^ (c .now .at - start .at) % p
+first-shift c start shifts low e table =
+    table 0 (omega arith) ∙ ap (λ (x : ℕ). c .signature .key .r ^ x % p) (omega (arith, e, first-length (c .signature .length) low))
 
 -- What a watch that fits tells the walk.
 pub record Ready (w : Matcher) : Type 0 where

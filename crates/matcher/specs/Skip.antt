@@ -1,13 +1,14 @@
--- Definitions for the functions behind `scan`: bytes that can change no stage are passed over together.
-use Prim.Native.Nat.{ℕ, zero, suc, _+_, _<_}
+-- Definitions for the functions behind `stroke` and `scan`: powers of r are found once for all stages, and bytes that can change no stage
+-- are passed over together.
+use Prim.Native.Nat.{ℕ, zero, suc, _+_, _^_, _%_, _≤_, _<_}
 use mathlib.Core.Path.{_≡_}
 use mathlib.Core.Bool.{cond}
 use mathlib.Core.List.{List, [], _∷_}
 use lib.ListN.{getD}
 use Rattle.fingerprint.specs.declared.Key.{Key}
 use Rattle.fingerprint.specs.declared.Fingerprint.{Fingerprint}
-use Rattle.fingerprint.specs.Fingerprint.{same, empty, pushed}
-use Rattle.ladder.specs.Prefix.{prefixLength}
+use Rattle.fingerprint.specs.Fingerprint.{p, same, empty, pushed}
+use Rattle.ladder.specs.Prefix.{levels, prefixLength}
 use Rattle.refusal.specs.declared.Verdict.{Verdict}
 use Rattle.refusal.specs.Number.{number}
 use Rattle.matcher.specs.declared.Mark.{Mark}
@@ -17,6 +18,10 @@ use Rattle.matcher.specs.declared.Scan.{Scan}
 use Rattle.matcher.specs.Matcher.{noStage}
 use Rattle.matcher.specs.Stroke.{nextMark, noAnswer}
 use Rattle.matcher.specs.Scan.{Scanned}
+
+-- r to |P_i|, modulo p, for each tested beginning P_0 .. P_k.
+abbrev pub Shifts : Key → ℕ → List ℕ → Type 0
+Shifts key m shifts = (i : ℕ) → i ≤ levels m → getD shifts i 0 ≡ key .r ^ prefixLength m i % p
 
 -- t and F_t behind the bytes passed over: at most n of them, and none from the first on whose fingerprint is the one given.
 unfoldable pub skipped : Key → Fingerprint → ℕ → Mark → List ℕ → Mark

@@ -1,17 +1,18 @@
 // The streaming matcher (document 01, "Ladder"): a watch in a few hundred bytes, and its answer to each byte.
 ghost use mathlib.Core.Path.{_≡_};
 ghost use mathlib.Core.Bool.{true, cond, not, _&&_};
-ghost use Prim.Native.Nat.{_+_, _-_, _*_, _≤_, _<_, suc, min};
+ghost use Prim.Native.Nat.{_+_, _-_, _*_, _^_, _%_, _≤_, _<_, suc, min};
 ghost use lib.Dec.{leb, ltb, eqb};
 ghost use lib.ListN.{length, drop, getD};
-ghost use Rattle.fingerprint.specs.Fingerprint.{same};
+ghost use Rattle.fingerprint.specs.declared.Key.{Key};
+ghost use Rattle.fingerprint.specs.Fingerprint.{p, same};
 ghost use Rattle.ladder.specs.Prefix.{levels, prefixLength};
 ghost use Rattle.refusal.specs.Number.{number};
 ghost use Rattle.signature.specs.Signature.{signatureFits};
 ghost use Rattle.matcher.specs.Matcher.{origin, noGap, noStage, sameMark, sameGap, ageFits, noneFits, oneFits, manyFit, stagePrintsFit, stageFits, stagesFit, matcherFits, freshRefusal, fresh, blank};
-ghost use Rattle.matcher.specs.Stroke.{gapTo, forward, alone, takenOff, entered, asideOf, noProgression, noAnswer, ringing, withAside, ripeAt, promotedUnder, walkedFrom, nextMark, walked, strokeRefusal, strokeAnswer, afterStroke};
+ghost use Rattle.matcher.specs.Stroke.{gapTo, forward, alone, takenOff, entered, asideOf, noProgression, noAnswer, ringing, withAside, ripeAt, promotedUnder, descended, walkedFrom, nextMark, walked, strokeRefusal, strokeAnswer, afterStroke};
 ghost use Rattle.matcher.specs.Scan.{silent, scanned};
-ghost use Rattle.matcher.specs.Skip.{skipped, Unripe, silentEnd, Ends};
+ghost use Rattle.matcher.specs.Skip.{Shifts, skipped, Unripe, silentEnd, Ends};
 use fingerprint::Fingerprint;
 use fingerprint::Key;
 use refusal::Refusal;
@@ -466,12 +467,12 @@ impl Stage {
     }
 }
 
-// Whether the block from a start to now has the fingerprint of P_i.
-fn matches(key: Key, start: Mark, now: Mark, print: Fingerprint) -> bool
-    ensures { λ ok. ⌜ ok ≡ same (gapTo key start now .print) print ⌝ }
+// Whether the block from a start to now has the fingerprint of P_i, where `shift` is r to the block's length.
+fn matches(shift: u32, start: Mark, now: Mark, print: Fingerprint) -> bool
+    ensures { λ ok. ⌜ ((key : Key) → shift ≡ key .r ^ (now .at - start .at) % p → ok ≡ same (gapTo key start now .print) print) ⌝ }
 {
-    let gap = start.gap_to(key, now);
-    let block = gap.print;
+    let front = start.print;
+    let block = now.print.cut_by(front, shift);
     block.equals(print)
 }
 
@@ -526,13 +527,13 @@ impl Answer {
     }
 }
 
-// A start whose block matched P_i is rung if i = k, else it enters stage i.
-fn promote(key: Key, k: u32, i: u32, start: Mark, w: Walk) -> Walk
-    requires { ⌜ (i < 20 → (getD (w .stages) i noStage .held + 1 < 4294967296) × (w .answer .asides < 20)) × (k ≤ 20) × (i ≤ k) ⌝ }
-    ensures { λ r. ⌜ r ≡ promotedUnder key k i start w ⌝ }
+// A start whose byte is P_0 is rung if k = 0, else it enters stage 0.
+fn admit(key: Key, k: u32, start: Mark, w: Walk) -> Walk
+    requires { ⌜ (getD (w .stages) 0 noStage .held + 1 < 4294967296) × (w .answer .asides < 20) ⌝ }
+    ensures { λ r. ⌜ r ≡ promotedUnder key k 0 start w ⌝ }
 {
     let answer = w.answer;
-    if i == k {
+    if k == 0 {
         let stages = w.stages;
         return Walk {
             stages,
@@ -540,33 +541,53 @@ fn promote(key: Key, k: u32, i: u32, start: Mark, w: Walk) -> Walk
         };
     }
     let mut stages = w.stages;
-    let s = stages[i as usize];
+    let s = stages[0];
     let e = s.enter(key, start);
     let stage = e.stage;
     let aside = e.aside;
-    stages[i as usize] = stage;
+    stages[0] = stage;
     Walk {
         stages,
         answer: answer.with(aside),
     }
 }
 
-// One byte's walk: the stages from the highest down, and then the start before the byte, which is compared with P_0.
-fn climb(c: Round, start: Mark, before: [Stage; 20]) -> Walk
-    requires { ⌜ (1 ≤ c .signature .length) × (c .signature .length ≤ 1048576) × (stagesFit (c .signature .length) (c .now .at - 1) before ≡ true) ⌝ }
-    ensures { λ r. ⌜ r ≡ walkedFrom c start before ⌝ }
+// r to |P_i|, modulo P, for each tested beginning P_0 .. P_k of m bytes.
+fn shifts(key: Key, m: u32) -> [u32; 21]
+    requires { ⌜ m ≤ 1048576 ⌝ }
+    ensures { λ r. ⌜ Shifts key m r ⌝ }
+{
+    let k = signature::levels(m);
+    let mut shifts = [0u32; 21];
+    let mut square = key.power(1);
+    let mut i: u32 = 0;
+    while i < k {
+        shifts[i as usize] = square as u32;
+        square = square * square % Fingerprint::P;
+        i = i + 1;
+    }
+    shifts[k as usize] = key.power(m as u64) as u32;
+    shifts
+}
+
+// One byte's walk over the stages, from the highest down: a ripe start is taken off and compared; on a match it rings or enters the stage
+// above.
+fn descend(c: Round, k: u32, shifts: [u32; 21], before: [Stage; 20]) -> Walk
+    requires { ⌜ (c .signature .length ≤ 1048576) × (k ≡ levels (c .signature .length)) × Shifts (c .signature .key) (c .signature .length) shifts × (stagesFit (c .signature .length) (c .now .at - 1) before ≡ true) ⌝ }
+    ensures { λ r. ⌜ r ≡ descended c k (record { stages = before; answer = noAnswer }) ⌝ }
+    ensures { λ r. ⌜ (getD (r .stages) 0 noStage .held + 1 < 4294967296) × (r .answer .asides < 20) × (r .answer .comparisons ≤ 20) ⌝ }
 {
     let m = c.signature.length;
     let key = c.signature.key;
     let prints = c.signature.prints;
     let now = c.now;
-    let k = signature::levels(m);
     let mut w = Walk {
         stages: before,
         answer: Answer::none(),
     };
     let mut i = k;
     while 0 < i {
+        let above = i;
         i = i - 1;
         let s = w.stages[i as usize];
         if s.is_ripe(m, i, now.at) {
@@ -574,16 +595,45 @@ fn climb(c: Round, start: Mark, before: [Stage; 20]) -> Walk
             let rest = s.take_off(key);
             w.stages[i as usize] = rest;
             w.answer.comparisons = w.answer.comparisons + 1;
-            let print = prints[(i + 1) as usize];
-            if matches(key, first, now, print) {
-                w = promote(key, k, i + 1, first, w);
+            let shift = shifts[above as usize];
+            let print = prints[above as usize];
+            if matches(shift, first, now, print) {
+                if above == k {
+                    let answer = w.answer;
+                    w.answer = answer.with_ring(first.at);
+                } else {
+                    let u = w.stages[above as usize];
+                    let e = u.enter(key, first);
+                    let stage = e.stage;
+                    let aside = e.aside;
+                    w.stages[above as usize] = stage;
+                    if let Aside::Set(_) = aside {
+                        let answer = w.answer;
+                        w.answer = answer.with(aside);
+                    }
+                }
             }
         }
     }
-    w.answer.comparisons = w.answer.comparisons + 1;
+    w
+}
+
+// One byte's walk: the stages, and then the start before the byte, which is compared with P_0.
+fn climb(c: Round, shifts: [u32; 21], start: Mark, before: [Stage; 20]) -> Walk
+    requires { ⌜ (1 ≤ c .signature .length) × (c .signature .length ≤ 1048576) × Shifts (c .signature .key) (c .signature .length) shifts × (c .now .at ≡ suc (start .at)) × (stagesFit (c .signature .length) (start .at) before ≡ true) ⌝ }
+    ensures { λ r. ⌜ r ≡ walkedFrom c start before ⌝ }
+{
+    let k = signature::levels(c.signature.length);
+    let walk = descend(c, k, shifts, before);
+    let stages = walk.stages;
+    let mut answer = walk.answer;
+    answer.comparisons = answer.comparisons + 1;
+    let w = Walk { stages, answer };
+    let shift = shifts[0];
+    let prints = c.signature.prints;
     let print = prints[0];
-    if matches(key, start, now, print) {
-        w = promote(key, k, 0, start, w);
+    if matches(shift, start, c.now, print) {
+        return admit(c.signature.key, k, start, w);
     }
     w
 }
@@ -626,7 +676,8 @@ impl Matcher {
         let signature = self.signature;
         let before = self.stages;
         let now = start.push(signature.key, byte);
-        let w = climb(Round { signature, now }, start, before);
+        let shifts = shifts(signature.key, signature.length);
+        let w = climb(Round { signature, now }, shifts, start, before);
         let stages = w.stages;
         let answer = w.answer;
         Stroke {
@@ -752,6 +803,7 @@ impl Matcher {
         let signature = self.signature;
         let key = signature.key;
         let first = signature.prints[0];
+        let shifts = shifts(key, signature.length);
         let mut stages = self.stages;
         let mut now = self.now;
         let mut at = from;
@@ -774,7 +826,7 @@ impl Matcher {
                 }
                 now = start.push(key, input[at]);
                 at = at + 1;
-                let w = climb(Round { signature, now }, start, stages);
+                let w = climb(Round { signature, now }, shifts, start, stages);
                 let answer = w.answer;
                 stages = w.stages;
                 comparisons = comparisons + (answer.comparisons as u64);

@@ -1,144 +1,129 @@
 -- `matcher::Matcher::run` meets its contract: the loop keeps the run going.
 use borrow.Author.Needs.{needs}
 use Prim.Native.Nat.{_+_, _-_}
-use mathlib.Core.Path.{_≡_, sym, _∙_, ap}
+use mathlib.Core.Path.{refl, sym, _∙_}
 use native.Mathlib.Omega.{arith}
-use native.Mathlib.Numerals.{sub-one}
 use borrow.Author.Tests.{not-true, not-false}
 use lib.ListN.{length}
 use Rattle.matcher.proofs.Rounds.{ready}
 use Rattle.matcher.proofs.Running.{Running, run-begin, run-end, run-spent, run-report, run-count, run-step, run-skip}
 use Rattle.matcher.proofs.Matcher.run.Statement.{statement}
 use Rattle.matcher.proofs.Matcher.run.Tie as tie
-use Rattle.matcher.proofs.Matcher.run.Reads as reads
-use Rattle.matcher.proofs.Matcher.run.Lts as lts
-use Rattle.matcher.proofs.Answer.is_silent.Reads as is-silent-reads
-use Rattle.matcher.proofs.Mark.push.Reads as push-reads
-use Rattle.matcher.proofs.Scan.silent.Reads as silent-reads
-use Rattle.matcher.proofs.climb.Reads as climb-reads
-use Rattle.matcher.proofs.distance.Reads as distance-reads
-use Rattle.matcher.proofs.quiet_until.Reads as quiet-until-reads
-use Rattle.matcher.proofs.skip.Reads as skip-reads
 
 abbrev Inv-loop : tie.InvT-loop
-Inv-loop input from signature key first stages₀ now₀ at₀ comparisons₀ stages now at comparisons = Running (record { signature = signature; now = now₀; stages = stages₀ }) input from (record { signature = signature; now = now; stages = stages }) at comparisons
+Inv-loop input from signature key first shifts stages₀ now₀ at₀ comparisons₀ stages now at comparisons =
+    Running (record { signature = signature; now = now₀; stages = stages₀ }) input from (record { signature = signature; now = now; stages = stages }) at comparisons
 
 abbrev μ-loop : tie.MeasureT-loop
-μ-loop input from signature key first stages₀ now₀ at₀ comparisons₀ stages now at comparisons = length input - at
+μ-loop input from signature key first shifts stages₀ now₀ at₀ comparisons₀ stages now at comparisons = length input - at
 
--- BEGIN EXTRA
 -- the run once bytes were passed over
 passed :
     (c : tie.After-distance Inv-loop μ-loop)
-    → Running (c .before .before .before .before .before .before .before .before .before .before .before .args .self) (c .before .before .before .before .before .before .before .before .before .before .before .args .input .now) (c .before .before .before .before .before .before .before .before .before .before .before .args .from)
-    (record { signature = c .before .before .before .before .before .before .before .before .before .before .before .args .self .signature; now = c .before .skip .result; stages = c .before .before .before .before .loop .stages })
-    (c .before .before .before .before .loop .at + c .distance .result) (c .before .before .before .before .loop .comparisons + c .distance .result)
+    → Running (c .before .before .before .before .before .before .before .before .before .before .before .before .args .self) (c .before .before .before .before .before .before .before .before .before .before .before .before .args .input .now) (c .before .before .before .before .before .before .before .before .before .before .before .before .args .from)
+    (record { signature = c .before .before .before .before .before .before .before .before .before .before .before .before .args .self .signature; now = c .before .skip .result; stages = c .before .before .before .before .loop .stages })
+    (c .before .before .before .before .loop .at + c .distance .result)
+    (c .before .before .before .before .loop .comparisons + c .distance .result)
 passed c =
     rw (c .distance .ensures)
-    (run-skip (c .before .before .before .before .before .before .before .before .before .before .before .args .self) (c .before .before .before .before .before .before .before .before .before .before .before .args .input .now) (c .before .before .before .before .before .before .before .before .before .before .before .args .from) (record { signature = c .before .before .before .before .before .before .before .before .before .before .before .args .self .signature; now = c .before .before .before .before .loop .now; stages = c .before .before .before .before .loop .stages })
+    (run-skip (c .before .before .before .before .before .before .before .before .before .before .before .before .args .self) (c .before .before .before .before .before .before .before .before .before .before .before .before .args .input .now) (c .before .before .before .before .before .before .before .before .before .before .before .before .args .from)
+    (record { signature = c .before .before .before .before .before .before .before .before .before .before .before .before .args .self .signature; now = c .before .before .before .before .loop .now; stages = c .before .before .before .before .loop .stages })
     (c .before .before .before .before .loop .at) (c .before .before .before .before .loop .comparisons) (c .before .before .before .before .loop .inv) (c .before .before .quiet-until .result) (omega arith) (c .before .before .quiet-until .ensures) (c .before .skip .result) (c .before .skip .ensures))
 
--- END EXTRA
+-- the card's length is one that a card can have
+shifts-requires : tie.Need-shifts-requires Inv-loop μ-loop
+shifts-requires c κs = ready (c .before .before .before .before .args .self) (c .before .before .before .before .pre .0) .high
 
--- src/lib.rt:754:21
 element-copy-out-first : tie.Need-element-copy-out-first Inv-loop μ-loop
 element-copy-out-first c = search needs
 
--- src/lib.rt:759:9
 loop-holds : tie.Need-loop-holds Inv-loop μ-loop
-loop-holds c = run-begin (c .before .before .before .before .before .before .args .self) (c .before .before .before .before .before .before .args .input .now) (c .before .before .before .before .before .before .args .from) (c .before .before .before .before .before .before .pre .0) (omega arith) (c .before .before .before .before .before .before .pre .1)
+loop-holds c = run-begin (c .before .before .before .before .before .before .before .args .self) (c .before .before .before .before .before .before .before .args .input .now) (c .before .before .before .before .before .before .before .args .from) (c .before .before .before .before .before .before .before .pre .0) (omega arith) (c .before .before .before .before .before .before .before .pre .1)
 
--- src/lib.rt:760:17
 quiet-until-requires : tie.Need-quiet-until-requires Inv-loop μ-loop
-quiet-until-requires c κs = let q = ready (record { signature = c .before .before .before .before .before .before .before .before .args .self .signature; now = c .before .loop .now; stages = c .before .loop .stages }) (c .before .loop .inv .fits) in (q .low, q .high)
+quiet-until-requires c κs =
+    let q = ready (record { signature = c .before .before .before .before .before .before .before .before .before .args .self .signature; now = c .before .loop .now; stages = c .before .loop .stages }) (c .before .loop .inv .fits) in
+    (q .low, q .high)
 
--- src/lib.rt:761:17
 skip-requires : tie.Need-skip-requires Inv-loop μ-loop
 skip-requires c κs = c .before .before .loop .inv .within
 
--- src/lib.rt:762:17
 distance-requires : tie.Need-distance-requires Inv-loop μ-loop
 distance-requires c κs = search needs
 
--- src/lib.rt:764:24
 cast-at : tie.Need-cast-at Inv-loop μ-loop
 cast-at c = search needs
 
--- src/lib.rt:764:18
 add-at : tie.Need-add-at Inv-loop μ-loop
 add-at c = omega (arith, passed c .within)
 
--- src/lib.rt:765:42
 cast-comparisons : tie.Need-cast-comparisons Inv-loop μ-loop
 cast-comparisons c = search needs
 
--- src/lib.rt:765:27
 add-comparisons : tie.Need-add-comparisons Inv-loop μ-loop
 add-comparisons c = omega (arith, passed c .few, passed c .room)
 
--- src/lib.rt:769:21
 silent-requires : tie.Need-silent-requires Inv-loop μ-loop
 silent-requires c κs = search needs
 
--- src/lib.rt:769:21
 returns : tie.Need-returns Inv-loop μ-loop
-returns c = rw (c .silent .ensures) (run-spent (c .before .before .before .before .before .before .before .before .before .before .before .before .before .before .before .args .self) (c .before .before .before .before .before .before .before .before .before .before .before .before .before .before .before .args .input .now) (c .before .before .before .before .before .before .before .before .before .before .before .before .before .before .before .args .from) _ _ _ (passed (c .before .before .before .before)) (c .before .before .before .if1 .taken) (c .before .if2 .taken))
+returns c =
+    rw (c .silent .ensures)
+    (run-spent (c .before .before .before .before .before .before .before .before .before .before .before .before .before .before .before .before .args .self) (c .before .before .before .before .before .before .before .before .before .before .before .before .before .before .before .before .args .input .now) (c .before .before .before .before .before .before .before .before .before .before .before .before .before .before .before .before .args .from) _ _ _ (passed (c .before .before .before .before)) (c .before .before .before .if1 .taken) (c .before .if2 .taken))
 
--- src/lib.rt:771:39
 shared-slice-read-push : tie.Need-shared-slice-read-push Inv-loop μ-loop
 shared-slice-read-push c = c .before .before .before .if1 .taken
 
--- src/lib.rt:771:17
 push-requires : tie.Need-push-requires Inv-loop μ-loop
 push-requires c κs = omega arith
 
--- src/lib.rt:772:22
 add-at-2 : tie.Need-add-at-2 Inv-loop μ-loop
 add-at-2 c = omega (arith, c .before .before .before .before .if1 .taken)
 
--- src/lib.rt:773:21
 climb-requires : tie.Need-climb-requires Inv-loop μ-loop
-climb-requires c κs = let q = ready _ (passed (c .before .before .before .before .before) .fits) in rw (c .push .ensures, sub-one) (q .low, q .high, q .stages)
+climb-requires c κs =
+    let q = ready _ (passed (c .before .before .before .before .before) .fits) in
+    rw (c .push .ensures) (q .low, q .high, c .before .before .before .before .before .before .before .before .before .before .before .before .shifts .ensures, refl, q .stages)
 
--- src/lib.rt:776:46
 cast-comparisons-2 : tie.Need-cast-comparisons-2 Inv-loop μ-loop
 cast-comparisons-2 c = search needs
 
--- src/lib.rt:776:31
 add-comparisons-2 : tie.Need-add-comparisons-2 Inv-loop μ-loop
-add-comparisons-2 c = rw (c .before .before .before .climb .ensures, c .before .before .before .before .push .ensures) (omega (arith, passed (c .before .before .before .before .before .before .before .before .before) .few, c .before .before .before .before .before .before .if2 .left, run-count (c .before .before .before .before .before .before .before .before .before .before .before .before .before .before .before .before .before .before .before .before .args .self) (c .before .before .before .before .before .before .before .before .before .before .before .before .before .before .before .before .before .before .before .before .args .input .now) (c .before .before .before .before .before .before .before .before .before .before .before .before .before .before .before .before .before .before .before .before .args .from) _ _ _ (passed (c .before .before .before .before .before .before .before .before .before)) (c .before .before .before .before .before .before .before .before .if1 .taken) (c .before .before .before .before .before .before .if2 .left)))
+add-comparisons-2 c =
+    let q = passed (c .before .before .before .before .before .before .before .before .before) in
+    let fresh = c .before .before .before .before .before .before .if2 .left in
+    rw (c .before .before .before .climb .ensures, c .before .before .before .before .push .ensures)
+    (omega (arith, q .few, fresh, run-count (c .before .before .before .before .before .before .before .before .before .before .before .before .before .before .before .before .before .before .before .before .before .args .self) (c .before .before .before .before .before .before .before .before .before .before .before .before .before .before .before .before .before .before .before .before .before .args .input .now) (c .before .before .before .before .before .before .before .before .before .before .before .before .before .before .before .before .before .before .before .before .before .args .from) _ _ _ q (c .before .before .before .before .before .before .before .before .if1 .taken) fresh))
 
--- src/lib.rt:777:21
 is-silent-requires : tie.Need-is-silent-requires Inv-loop μ-loop
 is-silent-requires c κs = search needs
 
--- src/lib.rt:779:21
 returns-2 : tie.Need-returns-2 Inv-loop μ-loop
-returns-2 c = rw (c .before .before .before .before .before .climb .ensures, c .before .before .before .before .before .before .push .ensures) (run-report (c .before .before .before .before .before .before .before .before .before .before .before .before .before .before .before .before .before .before .before .before .before .before .args .self) (c .before .before .before .before .before .before .before .before .before .before .before .before .before .before .before .before .before .before .before .before .before .before .args .input .now) (c .before .before .before .before .before .before .before .before .before .before .before .before .before .before .before .before .before .before .before .before .before .before .args .from) _ _ _ (passed (c .before .before .before .before .before .before .before .before .before .before .before)) (c .before .before .before .before .before .before .before .before .before .before .if1 .taken) (c .before .before .before .before .before .before .before .before .if2 .left) (rw (c .before .before .before .before .before .climb .ensures, c .before .before .before .before .before .before .push .ensures) at (sym (c .before .is-silent .ensures) ∙ not-true _ (c .if3 .taken))))
+returns-2 c =
+    rw (c .before .before .before .before .before .climb .ensures, c .before .before .before .before .before .before .push .ensures)
+    (run-report (c .before .before .before .before .before .before .before .before .before .before .before .before .before .before .before .before .before .before .before .before .before .before .before .args .self) (c .before .before .before .before .before .before .before .before .before .before .before .before .before .before .before .before .before .before .before .before .before .before .before .args .input .now) (c .before .before .before .before .before .before .before .before .before .before .before .before .before .before .before .before .before .before .before .before .before .before .before .args .from) _ _ _ (passed (c .before .before .before .before .before .before .before .before .before .before .before)) (c .before .before .before .before .before .before .before .before .before .before .if1 .taken) (c .before .before .before .before .before .before .before .before .if2 .left)
+    (rw (c .before .before .before .before .before .climb .ensures, c .before .before .before .before .before .before .push .ensures) at (sym (c .before .is-silent .ensures) ∙ not-true _ (c .if3 .taken))))
 
--- src/lib.rt:759:9
 loop-less : tie.Need-loop-less Inv-loop μ-loop
 loop-less c = omega (arith, c .before .before .before .before .before .before .before .before .before .before .if1 .taken)
 
--- src/lib.rt:759:9
 loop-again : tie.Need-loop-again Inv-loop μ-loop
-loop-again c = rw (c .before .before .before .before .before .climb .ensures, c .before .before .before .before .before .before .push .ensures) (run-step (c .before .before .before .before .before .before .before .before .before .before .before .before .before .before .before .before .before .before .before .before .before .before .args .self) (c .before .before .before .before .before .before .before .before .before .before .before .before .before .before .before .before .before .before .before .before .before .before .args .input .now) (c .before .before .before .before .before .before .before .before .before .before .before .before .before .before .before .before .before .before .before .before .before .before .args .from) _ _ _ (passed (c .before .before .before .before .before .before .before .before .before .before .before)) (c .before .before .before .before .before .before .before .before .before .before .if1 .taken) (c .before .before .before .before .before .before .before .before .if2 .left) (rw (c .before .before .before .before .before .climb .ensures, c .before .before .before .before .before .before .push .ensures) at (sym (c .before .is-silent .ensures) ∙ not-false _ (c .if3 .left))))
+loop-again c =
+    rw (c .before .before .before .before .before .climb .ensures, c .before .before .before .before .before .before .push .ensures)
+    (run-step (c .before .before .before .before .before .before .before .before .before .before .before .before .before .before .before .before .before .before .before .before .before .before .before .args .self) (c .before .before .before .before .before .before .before .before .before .before .before .before .before .before .before .before .before .before .before .before .before .before .before .args .input .now) (c .before .before .before .before .before .before .before .before .before .before .before .before .before .before .before .before .before .before .before .before .before .before .before .args .from) _ _ _ (passed (c .before .before .before .before .before .before .before .before .before .before .before)) (c .before .before .before .before .before .before .before .before .before .before .if1 .taken) (c .before .before .before .before .before .before .before .before .if2 .left)
+    (rw (c .before .before .before .before .before .climb .ensures, c .before .before .before .before .before .before .push .ensures) at (sym (c .before .is-silent .ensures) ∙ not-false _ (c .if3 .left))))
 
--- src/lib.rt:759:9
 loop-less-2 : tie.Need-loop-less-2 Inv-loop μ-loop
 loop-less-2 c = omega (arith, c .if1 .left, c .before .before .before .before .loop-test .taken)
 
--- src/lib.rt:759:9
 loop-again-2 : tie.Need-loop-again-2 Inv-loop μ-loop
 loop-again-2 c = passed (c .before)
 
--- src/lib.rt:790:9
 silent-requires-2 : tie.Need-silent-requires-2 Inv-loop μ-loop
 silent-requires-2 c κs = search needs
 
--- src/lib.rt:748:5
 returns-3 : tie.Need-returns-3 Inv-loop μ-loop
-returns-3 c = rw (c .silent2 .ensures) (run-end (c .before .before .before .before .before .before .before .before .before .args .self) (c .before .before .before .before .before .before .before .before .before .args .input .now) (c .before .before .before .before .before .before .before .before .before .args .from) _ _ _ (c .before .before .loop .inv) (c .before .loop-test .left))
+returns-3 c = rw (c .silent2 .ensures) (run-end (c .before .before .before .before .before .before .before .before .before .before .args .self) (c .before .before .before .before .before .before .before .before .before .before .args .input .now) (c .before .before .before .before .before .before .before .before .before .before .args .from) _ _ _ (c .before .before .loop .inv) (c .before .loop-test .left))
 
 pub run-spec : {M : Type 1} → statement M
 run-spec =
@@ -147,6 +132,7 @@ run-spec =
     Inv-loop
     μ-loop
     element-copy-out-first
+    shifts-requires
     loop-holds
     quiet-until-requires
     skip-requires

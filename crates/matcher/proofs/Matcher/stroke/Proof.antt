@@ -2,7 +2,6 @@
 use borrow.Author.Needs.{needs}
 use mathlib.Core.Path.{refl, sym, _∙_}
 use borrow.Author.Tests.{not-true, not-false, lt-ltb, le-ltb}
-use native.Mathlib.Numerals.{sub-one}
 use Rattle.matcher.specs.Stroke.{strokeAnswer, afterStroke}
 use Rattle.matcher.proofs.Rounds.{ready}
 use Rattle.matcher.proofs.Matcher.stroke.Statement.{statement}
@@ -28,14 +27,29 @@ returns-2 c = rw (← c .before .before .before .before .before .fits2 .ensures,
 push-requires : tie.Need-push-requires
 push-requires c κs = search needs
 
+shifts-requires : tie.Need-shifts-requires
+shifts-requires c κs =
+    let fits2 = c .before .before .before .before .before .before .before .fits2 in
+    ready (c .before .before .before .before .before .before .before .before .args .self) (sym (fits2 .ensures) ∙ not-false (fits2 .result) (c .before .before .before .before .before .before .if1 .left)) .high
+
 climb-requires : tie.Need-climb-requires
 climb-requires c κs =
-    let q = ready (c .before .before .before .before .before .before .before .before .args .self) (sym (c .before .before .before .before .before .before .before .fits2 .ensures) ∙ not-false (c .before .before .before .before .before .before .before .fits2 .result) (c .before .before .before .before .before .before .if1 .left)) in
-    rw (c .push .ensures, sub-one) (q .low, q .high, q .stages)
+    let fits2 = c .before .before .before .before .before .before .before .before .fits2 in
+    let q = ready (c .before .before .before .before .before .before .before .before .before .args .self) (sym (fits2 .ensures) ∙ not-false (fits2 .result) (c .before .before .before .before .before .before .before .if1 .left)) in
+    rw (c .before .push .ensures) (q .low, q .high, c .shifts .ensures, refl, q .stages)
 
 returns-3 : tie.Need-returns-3
 unfolding strokeAnswer afterStroke
-returns-3 c = rw (← c .before .before .before .before .before .before .before .before .before .before .fits2 .ensures, not-false (c .before .before .before .before .before .before .before .before .before .before .fits2 .result) (c .before .before .before .before .before .before .before .before .before .if1 .left), lt-ltb _ _ (c .before .before .before .before .before .before .if2 .left), c .before .before .climb .ensures, c .before .before .before .push .ensures) (refl, (refl, refl))
+returns-3 c =
+    let fits2 = c .before .before .before .before .before .before .before .before .before .before .before .fits2 in
+    rw (
+      ← fits2 .ensures,
+      not-false (fits2 .result) (c .before .before .before .before .before .before .before .before .before .before .if1 .left),
+      lt-ltb _ _ (c .before .before .before .before .before .before .before .if2 .left),
+      c .before .before .climb .ensures,
+      c .before .before .before .before .push .ensures,
+    )
+    (refl, (refl, refl))
 
 pub stroke-spec : {M : Type 1} → statement M
 stroke-spec =
@@ -47,5 +61,6 @@ stroke-spec =
     none-requires-2
     returns-2
     push-requires
+    shifts-requires
     climb-requires
     returns-3)

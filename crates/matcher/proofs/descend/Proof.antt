@@ -1,0 +1,196 @@
+-- `matcher::descend` meets its contract: the loop keeps what is still to be done.
+use borrow.Author.Needs.{needs}
+use Prim.Native.Nat.{_-_}
+use mathlib.Core.Path.{_≡_, sym, _∙_}
+use mathlib.Core.Bool.{true}
+use native.Mathlib.Numerals.{add-one}
+use native.Mathlib.Omega.{arith}
+use lib.ListN.{getD}
+use Rattle.sequence.proofs.Laws.{counted-elements}
+use Rattle.matcher.specs.Matcher.{noStage}
+use Rattle.matcher.specs.Stroke.{ripe, matches}
+use Rattle.matcher.proofs.Rounds.{Turn, turn-begin, turn-unripe, turn-dropped, turn-rung, turn-entered, turn-shift, turn-end, visited-small, room-above, ripe-held}
+use Rattle.matcher.proofs.descend.Statement.{statement}
+use Rattle.matcher.proofs.descend.Tie as tie
+
+abbrev Inv-loop : tie.InvT-loop
+Inv-loop k shifts m key prints now w₀ i₀ w i =
+    Turn (record { signature = record { length = m; key = key; prints = prints }; now = now }) k i w₀ w
+
+abbrev μ-loop : tie.MeasureT-loop
+μ-loop k shifts m key prints now w₀ i₀ w i = i
+
+-- the stage visited has a ripe start
+ripened :
+    (c : tie.Then1 Inv-loop μ-loop)
+    → ripe (c .before .before .before .before .before .before .before .before .before .args .c) (c .before .before .before .before .loop .i - 1) (getD (c .before .before .before .before .loop .w .stages) (c .before .before .before .before .loop .i - 1) noStage) ≡ true
+ripened c = sym (c .before .is-ripe .ensures) ∙ c .if1 .taken
+
+-- the comparison is that of the start's block with the beginning above
+judged :
+    (c : tie.After-matches Inv-loop μ-loop)
+    → c .matches .result ≡ matches (c .before .before .before .before .before .before .before .before .before .before .before .before .before .before .args .c) (c .before .before .before .before .before .before .before .before .before .loop .i) (getD (c .before .before .before .before .before .before .before .before .before .loop .w .stages) (c .before .before .before .before .before .before .before .before .before .loop .i - 1) noStage .first)
+judged c =
+    let args = c .before .before .before .before .before .before .before .before .before .before .before .before .before .before .args in
+    let loop = c .before .before .before .before .before .before .before .before .before .loop in
+    c .matches .ensures (args .c .signature .key) (turn-shift (args .c) (args .k) (loop .i) _ (loop .w) (c .before .before .before .before .before .before .before .before .loop-test .taken) (loop .inv) (ripened (c .before .before .before .before .before)) (args .t3) (c .before .before .before .before .before .before .before .before .before .before .before .before .before .before .pre .2))
+
+none-requires : tie.Need-none-requires Inv-loop μ-loop
+none-requires c κs = search needs
+
+loop-holds : tie.Need-loop-holds Inv-loop μ-loop
+loop-holds c = turn-begin (c .before .before .before .before .args .c) (record { stages = c .before .before .before .before .args .before; answer = c .none .result }) (c .before .before .before .before .args .k) (c .before .before .before .before .pre .1) (c .before .before .before .before .pre .0) (search (counted-elements, needs)) (c .before .before .before .before .pre .3) (c .none .ensures)
+
+sub-i : tie.Need-sub-i Inv-loop μ-loop
+sub-i c = search needs
+
+cast-s : tie.Need-cast-s Inv-loop μ-loop
+cast-s c = search needs
+
+mul-s : tie.Need-mul-s Inv-loop μ-loop
+mul-s c = search needs
+
+element-copy-out-s : tie.Need-element-copy-out-s Inv-loop μ-loop
+element-copy-out-s c = omega (arith, c .before .loop .inv .most, c .before .loop .inv .midway .within)
+
+is-ripe-requires : tie.Need-is-ripe-requires Inv-loop μ-loop
+is-ripe-requires c κs = omega (arith, c .before .before .loop .inv .most, c .before .before .loop .inv .midway .within)
+
+take-off-requires : tie.Need-take-off-requires Inv-loop μ-loop
+take-off-requires c κs =
+    let args = c .before .before .before .before .before .before .before .before .before .before .args in
+    let loop = c .before .before .before .before .before .loop in
+    let small = visited-small (args .c) (args .k) (loop .i) _ (loop .w) (c .before .before .before .before .loop-test .taken) (loop .inv) in (
+      ripe-held (args .c) (loop .i - 1) (getD (loop .w .stages) (loop .i - 1) noStage) (ripened (c .before)),
+      λ h. omega (arith, small .second h),
+    )
+
+cast-rest : tie.Need-cast-rest Inv-loop μ-loop
+cast-rest c = omega (arith, c .before .before .before .before .before .before .loop .inv .most, c .before .before .before .before .before .before .loop .inv .midway .within)
+
+mul-rest : tie.Need-mul-rest Inv-loop μ-loop
+mul-rest c = omega (arith, c .before .before .before .before .before .before .loop .inv .most, c .before .before .before .before .before .before .loop .inv .midway .within)
+
+element-set-from-rest : tie.Need-element-set-from-rest Inv-loop μ-loop
+element-set-from-rest c = omega (arith, c .before .before .before .before .before .before .loop .inv .most, c .before .before .before .before .before .before .loop .inv .midway .within)
+
+add-w : tie.Need-add-w Inv-loop μ-loop
+add-w c = omega (arith, c .before .before .before .before .before .before .loop .inv .most, c .before .before .before .before .before .before .loop .inv .midway .count)
+
+cast-shift : tie.Need-cast-shift Inv-loop μ-loop
+cast-shift c = omega (arith, c .before .before .before .before .before .before .before .loop .inv .most, c .before .before .before .before .before .before .before .loop .inv .midway .within)
+
+mul-shift : tie.Need-mul-shift Inv-loop μ-loop
+mul-shift c = omega (arith, c .before .before .before .before .before .before .before .loop .inv .most, c .before .before .before .before .before .before .before .loop .inv .midway .within)
+
+array-read-shift : tie.Need-array-read-shift Inv-loop μ-loop
+array-read-shift c = omega (arith, c .before .before .before .before .before .before .before .loop .inv .most, c .before .before .before .before .before .before .before .loop .inv .midway .within)
+
+cast-print : tie.Need-cast-print Inv-loop μ-loop
+cast-print c = omega (arith, c .before .before .before .before .before .before .before .loop .inv .most, c .before .before .before .before .before .before .before .loop .inv .midway .within)
+
+mul-print : tie.Need-mul-print Inv-loop μ-loop
+mul-print c = omega (arith, c .before .before .before .before .before .before .before .loop .inv .most, c .before .before .before .before .before .before .before .loop .inv .midway .within)
+
+array-copy-out-print : tie.Need-array-copy-out-print Inv-loop μ-loop
+array-copy-out-print c = omega (arith, c .before .before .before .before .before .before .before .loop .inv .most, c .before .before .before .before .before .before .before .loop .inv .midway .within)
+
+matches-requires : tie.Need-matches-requires Inv-loop μ-loop
+matches-requires c κs = search needs
+
+with-ring-requires : tie.Need-with-ring-requires Inv-loop μ-loop
+with-ring-requires c κs = search needs
+
+loop-less : tie.Need-loop-less Inv-loop μ-loop
+loop-less c = omega (arith, c .before .before .before .before .before .before .before .before .before .before .before .before .loop-test .taken)
+
+loop-again : tie.Need-loop-again Inv-loop μ-loop
+loop-again c =
+    let args = c .before .before .before .before .before .before .before .before .before .before .before .before .before .before .before .before .before .before .args in
+    let loop = c .before .before .before .before .before .before .before .before .before .before .before .before .before .loop in
+    rw (c .with-ring .ensures, c .before .before .before .before .before .before .before .take-off .ensures, add-one (loop .w .answer .comparisons))
+    (turn-rung (args .c) (args .k) (loop .i) _ (loop .w) (c .before .before .before .before .before .before .before .before .before .before .before .before .loop-test .taken) (loop .inv) (ripened (c .before .before .before .before .before .before .before .before .before)) (sym (judged (c .before .before .before .before)) ∙ c .before .before .before .if2 .taken) (c .before .before .if3 .taken))
+
+cast-u : tie.Need-cast-u Inv-loop μ-loop
+cast-u c = omega (arith, c .before .before .before .before .before .before .before .before .before .before .before .loop .inv .most, c .before .before .before .before .before .before .before .before .before .before .before .loop .inv .midway .within)
+
+mul-u : tie.Need-mul-u Inv-loop μ-loop
+mul-u c = omega (arith, c .before .before .before .before .before .before .before .before .before .before .before .loop .inv .most, c .before .before .before .before .before .before .before .before .before .before .before .loop .inv .midway .within)
+
+element-copy-out-u : tie.Need-element-copy-out-u Inv-loop μ-loop
+element-copy-out-u c = omega (arith, c .before .before .before .before .before .before .before .before .before .before .before .loop .inv .most, c .before .before .before .before .before .before .before .before .before .before .before .loop .inv .midway .within)
+
+enter-requires : tie.Need-enter-requires Inv-loop μ-loop
+enter-requires c κs =
+    let args = c .before .before .before .before .before .before .before .before .before .before .before .before .before .before .before .before .before .args in
+    let loop = c .before .before .before .before .before .before .before .before .before .before .before .before .loop in
+    rw (c .before .before .before .before .before .before .take-off .ensures) (room-above (args .c) (args .k) (loop .i) _ (loop .w) (c .before .before .before .before .before .before .before .before .before .before .before .loop-test .taken) (loop .inv) .0)
+
+cast-stage : tie.Need-cast-stage Inv-loop μ-loop
+cast-stage c = omega (arith, c .before .before .before .before .before .before .before .before .before .before .before .before .before .before .loop .inv .most, c .before .before .before .before .before .before .before .before .before .before .before .before .before .before .loop .inv .midway .within)
+
+mul-stage : tie.Need-mul-stage Inv-loop μ-loop
+mul-stage c = omega (arith, c .before .before .before .before .before .before .before .before .before .before .before .before .before .before .loop .inv .most, c .before .before .before .before .before .before .before .before .before .before .before .before .before .before .loop .inv .midway .within)
+
+element-set-from-stage : tie.Need-element-set-from-stage Inv-loop μ-loop
+element-set-from-stage c = omega (arith, c .before .before .before .before .before .before .before .before .before .before .before .before .before .before .loop .inv .most, c .before .before .before .before .before .before .before .before .before .before .before .before .before .before .loop .inv .midway .within)
+
+enum-told : tie.Need-enum-told Inv-loop μ-loop
+enum-told c = search needs
+
+with-requires : tie.Need-with-requires Inv-loop μ-loop
+with-requires c κs =
+    let args = c .before .before .before .before .before .before .before .before .before .before .before .before .before .before .before .before .before .before .before .before .before .before .args in
+    let loop = c .before .before .before .before .before .before .before .before .before .before .before .before .before .before .before .before .before .loop in
+    room-above (args .c) (args .k) (loop .i) _ (loop .w) (c .before .before .before .before .before .before .before .before .before .before .before .before .before .before .before .before .loop-test .taken) (loop .inv) .1
+
+loop-less-2 : tie.Need-loop-less-2 Inv-loop μ-loop
+loop-less-2 c = omega (arith, c .before .before .before .before .before .before .before .before .before .before .before .before .before .before .before .before .before .loop-test .taken)
+
+loop-again-2 : tie.Need-loop-again-2 Inv-loop μ-loop
+loop-again-2 c =
+    let args = c .before .before .before .before .before .before .before .before .before .before .before .before .before .before .before .before .before .before .before .before .before .before .before .args in
+    let loop = c .before .before .before .before .before .before .before .before .before .before .before .before .before .before .before .before .before .before .loop in
+    rw (c .before .before .before .before .before .enter .ensures .0, c .before .before .before .before .before .before .before .before .before .before .before .before .take-off .ensures)
+    (turn-entered (args .c) (args .k) (loop .i) _ (loop .w) (c .before .before .before .before .before .before .before .before .before .before .before .before .before .before .before .before .before .loop-test .taken) (loop .inv) (ripened (c .before .before .before .before .before .before .before .before .before .before .before .before .before .before)) (sym (judged (c .before .before .before .before .before .before .before .before .before)) ∙ c .before .before .before .before .before .before .before .before .if2 .taken) (c .before .before .before .before .before .before .before .if3 .left)
+    (c .before .before .before .before .before .enter .result .aside) _ (rw (← c .before .before .before .before .before .before .before .before .before .before .before .before .take-off .ensures) (c .before .before .before .before .before .enter .ensures .1)) (rw add-one at (c .with .ensures)))
+
+enum-told-2 : tie.Need-enum-told-2 Inv-loop μ-loop
+enum-told-2 c = search needs
+
+loop-less-3 : tie.Need-loop-less-3 Inv-loop μ-loop
+loop-less-3 c = omega (arith, c .before .before .before .before .before .before .before .before .before .before .before .before .before .before .before .loop-test .taken)
+
+loop-again-3 : tie.Need-loop-again-3 Inv-loop μ-loop
+loop-again-3 c =
+    let args = c .before .before .before .before .before .before .before .before .before .before .before .before .before .before .before .before .before .before .before .before .before .args in
+    let loop = c .before .before .before .before .before .before .before .before .before .before .before .before .before .before .before .before .loop in
+    rw (c .before .before .before .enter .ensures .0, c .before .before .before .before .before .before .before .before .before .before .take-off .ensures, add-one (loop .w .answer .comparisons))
+    (turn-entered (args .c) (args .k) (loop .i) _ (loop .w) (c .before .before .before .before .before .before .before .before .before .before .before .before .before .before .before .loop-test .taken) (loop .inv) (ripened (c .before .before .before .before .before .before .before .before .before .before .before .before)) (sym (judged (c .before .before .before .before .before .before .before)) ∙ c .before .before .before .before .before .before .if2 .taken) (c .before .before .before .before .before .if3 .left)
+    (c .before .before .before .enter .result .aside) _ (rw (← c .before .before .before .before .before .before .before .before .before .before .take-off .ensures) (c .before .before .before .enter .ensures .1)) (rw (c .enum-told2 .given .1)))
+
+loop-less-4 : tie.Need-loop-less-4 Inv-loop μ-loop
+loop-less-4 c = omega (arith, c .before .before .before .before .before .before .before .before .before .loop-test .taken)
+
+loop-again-4 : tie.Need-loop-again-4 Inv-loop μ-loop
+loop-again-4 c =
+    let args = c .before .before .before .before .before .before .before .before .before .before .before .before .before .before .before .args in
+    let loop = c .before .before .before .before .before .before .before .before .before .before .loop in
+    rw (c .before .before .before .before .take-off .ensures, add-one) (turn-dropped (args .c) (args .k) (loop .i) _ (loop .w) (c .before .before .before .before .before .before .before .before .before .loop-test .taken) (loop .inv) (ripened (c .before .before .before .before .before .before)) (sym (judged (c .before)) ∙ c .if2 .left))
+
+loop-less-5 : tie.Need-loop-less-5 Inv-loop μ-loop
+loop-less-5 c = omega (arith, c .before .before .before .loop-test .taken)
+
+loop-again-5 : tie.Need-loop-again-5 Inv-loop μ-loop
+loop-again-5 c =
+    let args = c .before .before .before .before .before .before .before .before .before .args in
+    let loop = c .before .before .before .before .loop in
+    turn-unripe (args .c) (args .k) (loop .i) _ (loop .w) (c .before .before .before .loop-test .taken) (loop .inv) (sym (c .before .is-ripe .ensures) ∙ c .if1 .left)
+
+returns : tie.Need-returns Inv-loop μ-loop
+returns c = turn-end (c .before .before .before .before .before .before .args .c) (c .before .before .before .before .before .before .args .k) (c .before .loop .i) _ (c .before .loop .w) (omega (arith, c .loop-test .left)) (c .before .before .none .ensures) (c .before .loop .inv)
+
+pub descend-spec : {M : Type 1} → statement M
+descend-spec =
+    tie.close
+    (tie.spec Inv-loop μ-loop none-requires loop-holds sub-i cast-s mul-s element-copy-out-s is-ripe-requires take-off-requires cast-rest mul-rest element-set-from-rest add-w cast-shift mul-shift array-read-shift cast-print mul-print array-copy-out-print matches-requires with-ring-requires loop-less loop-again cast-u mul-u element-copy-out-u enter-requires cast-stage mul-stage element-set-from-stage enum-told with-requires loop-less-2 loop-again-2 enum-told-2 loop-less-3 loop-again-3 loop-less-4 loop-again-4 loop-less-5 loop-again-5 returns)

@@ -1,0 +1,76 @@
+-- `matcher::shifts` meets its contract: the loop doubles the exponent.
+use borrow.Author.Needs.{needs}
+use Prim.Native.Nat.{_-_, _≤_}
+use mathlib.Core.Path.{refl}
+use native.Mathlib.Numerals.{add-one}
+use native.Mathlib.Omega.{arith}
+use Rattle.fingerprint.proofs.Modular.{product-at-most}
+use Rattle.ladder.proofs.Levels.{levels-bound}
+use Rattle.matcher.proofs.Doubling.{Doubling, doubling-begin, doubling-step, doubling-end}
+use Rattle.matcher.proofs.shifts.Statement.{statement}
+use Rattle.matcher.proofs.shifts.Tie as tie
+
+abbrev Inv-loop : tie.InvT-loop
+Inv-loop key m k shifts₀ square₀ i₀ shifts square i = Doubling key k i shifts square
+
+abbrev μ-loop : tie.MeasureT-loop
+μ-loop key m k shifts₀ square₀ i₀ shifts square i = k - i
+
+levels-requires : tie.Need-levels-requires Inv-loop μ-loop
+levels-requires c κs = search needs
+
+power-requires : tie.Need-power-requires Inv-loop μ-loop
+power-requires c κs = search needs
+
+loop-holds : tie.Need-loop-holds Inv-loop μ-loop
+loop-holds c = doubling-begin (c .before .before .args .key) (c .before .levels .result) _ _ (omega (arith, c .before .levels .ensures, levels-bound (c .before .before .args .m) (c .before .before .pre))) refl (c .power .ensures)
+
+cast-shifts : tie.Need-cast-shifts Inv-loop μ-loop
+cast-shifts c = omega (arith, c .before .loop .inv .next)
+
+cast-shifts-2 : tie.Need-cast-shifts-2 Inv-loop μ-loop
+cast-shifts-2 c = omega (arith, c .before .loop .inv .most)
+
+mul-shifts : tie.Need-mul-shifts Inv-loop μ-loop
+mul-shifts c = omega (arith, c .before .loop .inv .most)
+
+array-write-shifts : tie.Need-array-write-shifts Inv-loop μ-loop
+array-write-shifts c = omega (arith, c .before .loop .inv .most, c .before .loop .inv .size, c .loop-test .taken)
+
+mul-square : tie.Need-mul-square Inv-loop μ-loop
+mul-square c =
+    let small : c .before .loop .square ≤ 2147483646 = omega (arith, c .before .loop .inv .next) in
+    omega (arith, product-at-most {a = c .before .loop .square} {b = c .before .loop .square} 2147483646 2147483646 small small)
+
+add-i : tie.Need-add-i Inv-loop μ-loop
+add-i c = omega (arith, c .before .loop .inv .most)
+
+loop-less : tie.Need-loop-less Inv-loop μ-loop
+loop-less c = omega (arith, c .loop-test .taken)
+
+loop-again : tie.Need-loop-again Inv-loop μ-loop
+loop-again c = rw add-one (doubling-step (c .before .before .before .before .args .key) (c .before .before .before .levels .result) (c .before .loop .i) (c .before .loop .shifts) (c .before .loop .square) (c .before .loop .inv) (c .loop-test .taken))
+
+power-requires-2 : tie.Need-power-requires-2 Inv-loop μ-loop
+power-requires-2 c κs = search needs
+
+cast-shifts-3 : tie.Need-cast-shifts-3 Inv-loop μ-loop
+cast-shifts-3 c = omega (arith, c .power2 .ensures)
+
+cast-shifts-4 : tie.Need-cast-shifts-4 Inv-loop μ-loop
+cast-shifts-4 c = omega (arith, c .before .before .loop .inv .most)
+
+mul-shifts-2 : tie.Need-mul-shifts-2 Inv-loop μ-loop
+mul-shifts-2 c = omega (arith, c .before .before .loop .inv .most)
+
+array-write-shifts-2 : tie.Need-array-write-shifts-2 Inv-loop μ-loop
+array-write-shifts-2 c = omega (arith, c .before .before .loop .inv .most, c .before .before .loop .inv .size)
+
+returns : tie.Need-returns Inv-loop μ-loop
+returns c =
+    doubling-end (c .before .before .before .before .before .args .key) (c .before .before .before .before .levels .result) (c .before .before .loop .i) (c .before .before .loop .shifts) (c .before .before .loop .square) (c .before .before .loop .inv) (c .before .before .before .before .before .args .m) (c .power2 .result) (c .before .before .before .before .levels .ensures) (omega (arith, c .before .loop-test .left)) (c .power2 .ensures)
+
+pub shifts-spec : {M : Type 1} → statement M
+shifts-spec =
+    tie.close
+    (tie.spec Inv-loop μ-loop levels-requires power-requires loop-holds cast-shifts cast-shifts-2 mul-shifts array-write-shifts mul-square add-i loop-less loop-again power-requires-2 cast-shifts-3 cast-shifts-4 mul-shifts-2 array-write-shifts-2 returns)
