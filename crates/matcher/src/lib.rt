@@ -70,18 +70,6 @@ pub struct Answer {
     pub comparisons: u32,
 }
 
-// A card and the mark of t and F_t: what stays the same while the stages are visited.
-pub struct Round {
-    pub signature: Signature,
-    pub now: Mark,
-}
-
-// What has come of a byte so far: the stages, and the answer as it grows.
-pub struct Walk {
-    pub stages: [Stage; 20],
-    pub answer: Answer,
-}
-
 // What a fresh watch is asked for: it holds nothing where the card is refused.
 pub struct Started {
     pub verdict: Verdict,
@@ -93,6 +81,40 @@ pub struct Stroke {
     pub verdict: Verdict,
     pub answer: Answer,
     pub matcher: Matcher,
+}
+
+// Where a run of strokes ended: the watch; the answer to the last byte taken, if it has something to report; all comparisons; the place
+// behind the last byte taken; and why the next byte was refused, if it was.
+pub struct Scan {
+    pub matcher: Matcher,
+    pub answer: Answer,
+    pub comparisons: u64,
+    pub next: usize,
+    pub verdict: Verdict,
+}
+
+// What entering a stage sets aside.
+pub enum Aside {
+    Nothing,
+    Set(Progression),
+}
+
+// What entering makes of a stage: the stage then, and the set set aside.
+pub struct Entry {
+    pub stage: Stage,
+    pub aside: Aside,
+}
+
+// A card and the mark of t and F_t: what stays the same while the stages are visited.
+pub struct Round {
+    pub signature: Signature,
+    pub now: Mark,
+}
+
+// What has come of a byte so far: the stages, and the answer as it grows.
+pub struct Walk {
+    pub stages: [Stage; 20],
+    pub answer: Answer,
 }
 
 impl Mark {
@@ -139,6 +161,17 @@ impl Mark {
         Mark {
             at: self.at + length,
             print: self.print.join(key, print, length as u64),
+        }
+    }
+
+    // The mark behind one byte more.
+    fn push(self, key: Key, byte: u8) -> Mark
+        requires { ⌜ self .at < 4294967295 ⌝ }
+        ensures { λ a. ⌜ a ≡ nextMark key self byte ⌝ }
+    {
+        Mark {
+            at: self.at + 1,
+            print: self.print.push(key, byte),
         }
     }
 }
@@ -189,7 +222,8 @@ fn age_fits(m: u32, i: u32, t: u32, start: u32) -> bool
 }
 
 impl Stage {
-    fn none() -> Stage
+    // A stage that lists nothing.
+    pub fn none() -> Stage
         ensures { λ s. ⌜ s ≡ noStage ⌝ }
     {
         let origin = Mark::origin();
@@ -325,86 +359,7 @@ impl Stage {
             step,
         }
     }
-}
 
-fn stages_fit(stages: [Stage; 20], m: u32, t: u32) -> bool
-    ensures { λ ok. ⌜ ok ≡ stagesFit m t stages ⌝ }
-{
-    let k = signature::levels(m);
-    let mut i: u32 = 0;
-    while i < 20 {
-        let stage = stages[i as usize];
-        if !stage.fits(m, k, i, t) {
-            return false;
-        }
-        i = i + 1;
-    }
-    true
-}
-
-impl Matcher {
-    // Whether the watch is no misfit.
-    pub fn fits(self) -> bool
-        ensures { λ ok. ⌜ ok ≡ matcherFits self ⌝ }
-    {
-        let signature = self.signature;
-        let now = self.now;
-        if !signature.fits() {
-            return false;
-        }
-        if !now.print.fits() {
-            return false;
-        }
-        if !signature::running_fits(now.at, now.print) {
-            return false;
-        }
-        let stages = self.stages;
-        stages_fit(stages, signature.length, now.at)
-    }
-
-    // A watch that has taken no byte.
-    fn blank(signature: Signature) -> Matcher
-        ensures { λ w. ⌜ w ≡ blank signature ⌝ }
-    {
-        let nothing = Stage::none();
-        Matcher {
-            signature,
-            now: Mark::origin(),
-            stages: [nothing; 20],
-        }
-    }
-
-    // A fresh watch of a card. Refusal: 10 misfit.
-    pub fn start(signature: Signature) -> Started
-        ensures verdict { λ r. ⌜ number (r .verdict) ≡ freshRefusal signature ⌝ }
-        ensures matcher { λ r. ⌜ r .matcher ≡ fresh signature ⌝ }
-    {
-        if !signature.fits() {
-            return Started {
-                verdict: Verdict::Refused(Refusal::Misfit),
-                matcher: Matcher::blank(Signature::none()),
-            };
-        }
-        Started {
-            verdict: Verdict::Accepted,
-            matcher: Matcher::blank(signature),
-        }
-    }
-}
-
-// What entering a stage sets aside.
-pub enum Aside {
-    Nothing,
-    Set(Progression),
-}
-
-// What entering makes of a stage: the stage then, and the set set aside.
-pub struct Entry {
-    pub stage: Stage,
-    pub aside: Aside,
-}
-
-impl Stage {
     // The stage with a newcomer behind its last start.
     fn enter(self, key: Key, new: Mark) -> Entry
         requires { ⌜ self .held + 1 < 4294967296 ⌝ }
@@ -465,15 +420,53 @@ impl Stage {
         let length = signature::prefix_length(m, i + 1);
         (self.first.at as u64) + (length as u64) == (t as u64)
     }
+
+    // `until`, or less: a t at which the first start of stage i is not yet ripe.
+    fn quiet_until(self, m: u32, i: u32, until: u32) -> u32
+        requires { ⌜ (i < 20) × (1 ≤ m) ⌝ }
+        ensures { λ t. ⌜ (t ≤ until) × ((self .held ≡ 0 → ⊥) → t < self .first .at + prefixLength m (suc i)) ⌝ }
+    {
+        if self.held == 0 {
+            return until;
+        }
+        let length = signature::prefix_length(m, i + 1);
+        let ripe = (self.first.at as u64) + (length as u64);
+        if (until as u64) < ripe {
+            return until;
+        }
+        (ripe - 1) as u32
+    }
 }
 
-// Whether the block from a start to now has the fingerprint of P_i, where `shift` is r to the block's length.
-fn matches(shift: u32, start: Mark, now: Mark, print: Fingerprint) -> bool
-    ensures { λ ok. ⌜ ((key : Key) → shift ≡ key .r ^ (now .at - start .at) % p → ok ≡ same (gapTo key start now .print) print) ⌝ }
+fn stages_fit(stages: [Stage; 20], m: u32, t: u32) -> bool
+    ensures { λ ok. ⌜ ok ≡ stagesFit m t stages ⌝ }
 {
-    let front = start.print;
-    let block = now.print.cut_by(front, shift);
-    block.equals(print)
+    let k = signature::levels(m);
+    let mut i: u32 = 0;
+    while i < 20 {
+        let stage = stages[i as usize];
+        if !stage.fits(m, k, i, t) {
+            return false;
+        }
+        i = i + 1;
+    }
+    true
+}
+
+// A t up to which no start becomes ripe.
+fn quiet_until(stages: [Stage; 20], m: u32) -> u32
+    requires { ⌜ (1 ≤ m) × (m ≤ 1048576) ⌝ }
+    ensures { λ t. ⌜ Unripe (levels m) m t stages ⌝ }
+{
+    let k = signature::levels(m);
+    let mut until = MAX_TAKEN;
+    let mut i: u32 = 0;
+    while i < k {
+        let stage = stages[i as usize];
+        until = stage.quiet_until(m, i, until);
+        i = i + 1;
+    }
+    until
 }
 
 impl Progression {
@@ -525,6 +518,26 @@ impl Answer {
             ..self
         }
     }
+
+    // Whether there is no ring and no set.
+    fn is_silent(self) -> bool
+        ensures { λ ok. ⌜ ok ≡ silent self ⌝ }
+    {
+        let ring = self.ring;
+        if let Ring::At(_) = ring {
+            return false;
+        }
+        self.asides == 0
+    }
+}
+
+// Whether the block from a start to now has the fingerprint of P_i, where `shift` is r to the block's length.
+fn matches(shift: u32, start: Mark, now: Mark, print: Fingerprint) -> bool
+    ensures { λ ok. ⌜ ((key : Key) → shift ≡ key .r ^ (now .at - start .at) % p → ok ≡ same (gapTo key start now .print) print) ⌝ }
+{
+    let front = start.print;
+    let block = now.print.cut_by(front, shift);
+    block.equals(print)
 }
 
 // A start whose byte is P_0 is rung if k = 0, else it enters stage 0.
@@ -638,20 +651,100 @@ fn climb(c: Round, shifts: [u32; 21], start: Mark, before: [Stage; 20]) -> Walk
     w
 }
 
-impl Mark {
-    // The mark behind one byte more.
-    fn push(self, key: Key, byte: u8) -> Mark
-        requires { ⌜ self .at < 4294967295 ⌝ }
-        ensures { λ a. ⌜ a ≡ nextMark key self byte ⌝ }
+// The place `most` behind `from`, or the end if that comes first.
+fn reach(end: usize, from: usize, most: u32) -> usize
+    requires { ⌜ from ≤ end ⌝ }
+    ensures { λ n. ⌜ n ≡ from + min most (end - from) ⌝ }
+{
+    if end - from <= (most as usize) {
+        return end;
+    }
+    from + (most as usize)
+}
+
+// t and F_t behind the bytes that are passed over: until t is `until`, a byte is P_0, or none is left.
+fn skip(key: Key, first: Fingerprint, until: u32, start: Mark, input: &[u8], from: usize) -> Mark
+    requires { ⌜ from ≤ length (now input) ⌝ }
+    ensures { λ r. ⌜ r ≡ skipped key first (min (until - start .at) (length (now (input .entry)) - from)) start (drop from (now (input .entry))) ⌝ }
+{
+    let end = reach(input.len(), from, distance(start.at, until));
+    let mut at = from;
+    let mut mark = start;
+    while at < end {
+        let byte = input[at];
+        if (byte as u32) == first.value {
+            return mark;
+        }
+        mark = mark.push(key, byte);
+        at = at + 1;
+    }
+    mark
+}
+
+impl Scan {
+    // A run whose last byte had nothing to report.
+    fn silent(matcher: Matcher, comparisons: u64, next: usize, verdict: Verdict) -> Scan
+        ensures { λ r. ⌜ r ≡ silentEnd matcher comparisons next verdict ⌝ }
     {
-        Mark {
-            at: self.at + 1,
-            print: self.print.push(key, byte),
+        Scan {
+            matcher,
+            answer: Answer::none(),
+            comparisons,
+            next,
+            verdict,
         }
     }
 }
 
 impl Matcher {
+    // Whether the watch is no misfit.
+    pub fn fits(self) -> bool
+        ensures { λ ok. ⌜ ok ≡ matcherFits self ⌝ }
+    {
+        let signature = self.signature;
+        let now = self.now;
+        if !signature.fits() {
+            return false;
+        }
+        if !now.print.fits() {
+            return false;
+        }
+        if !signature::running_fits(now.at, now.print) {
+            return false;
+        }
+        let stages = self.stages;
+        stages_fit(stages, signature.length, now.at)
+    }
+
+    // A watch that has taken no byte.
+    pub fn blank(signature: Signature) -> Matcher
+        ensures { λ w. ⌜ w ≡ blank signature ⌝ }
+    {
+        let nothing = Stage::none();
+        Matcher {
+            signature,
+            now: Mark::origin(),
+            stages: [nothing; 20],
+        }
+    }
+
+    // A fresh watch of a card. Refusal: 10 misfit.
+    pub fn start(signature: Signature) -> Started
+        ensures verdict { λ r. ⌜ number (r .verdict) ≡ freshRefusal signature ⌝ }
+        ensures matcher { λ r. ⌜ r .matcher ≡ fresh signature ⌝ }
+    {
+        if !signature.fits() {
+            return Started {
+                verdict: Verdict::Refused(Refusal::Misfit),
+                matcher: Matcher::blank(Signature::none()),
+            };
+        }
+        Started {
+            verdict: Verdict::Accepted,
+            matcher: Matcher::blank(signature),
+        }
+    }
+
     // Takes one byte of the stream. Refusals: 10 misfit, 6 spent.
     pub fn stroke(self, byte: u8) -> Stroke
         ensures verdict { λ r. ⌜ number (r .verdict) ≡ strokeRefusal self ⌝ }
@@ -690,111 +783,7 @@ impl Matcher {
             },
         }
     }
-}
 
-// Where a run of strokes ended: the watch; the answer to the last byte taken, if it has something to report; all comparisons; the place
-// behind the last byte taken; and why the next byte was refused, if it was.
-pub struct Scan {
-    pub matcher: Matcher,
-    pub answer: Answer,
-    pub comparisons: u64,
-    pub next: usize,
-    pub verdict: Verdict,
-}
-
-impl Stage {
-    // `until`, or less: a t at which the first start of stage i is not yet ripe.
-    fn quiet_until(self, m: u32, i: u32, until: u32) -> u32
-        requires { ⌜ (i < 20) × (1 ≤ m) ⌝ }
-        ensures { λ t. ⌜ (t ≤ until) × ((self .held ≡ 0 → ⊥) → t < self .first .at + prefixLength m (suc i)) ⌝ }
-    {
-        if self.held == 0 {
-            return until;
-        }
-        let length = signature::prefix_length(m, i + 1);
-        let ripe = (self.first.at as u64) + (length as u64);
-        if (until as u64) < ripe {
-            return until;
-        }
-        (ripe - 1) as u32
-    }
-}
-
-// A t up to which no start becomes ripe.
-fn quiet_until(stages: [Stage; 20], m: u32) -> u32
-    requires { ⌜ (1 ≤ m) × (m ≤ 1048576) ⌝ }
-    ensures { λ t. ⌜ Unripe (levels m) m t stages ⌝ }
-{
-    let k = signature::levels(m);
-    let mut until = MAX_TAKEN;
-    let mut i: u32 = 0;
-    while i < k {
-        let stage = stages[i as usize];
-        until = stage.quiet_until(m, i, until);
-        i = i + 1;
-    }
-    until
-}
-
-// The place `most` behind `from`, or the end if that comes first.
-fn reach(end: usize, from: usize, most: u32) -> usize
-    requires { ⌜ from ≤ end ⌝ }
-    ensures { λ n. ⌜ n ≡ from + min most (end - from) ⌝ }
-{
-    if end - from <= (most as usize) {
-        return end;
-    }
-    from + (most as usize)
-}
-
-// t and F_t behind the bytes that are passed over: until t is `until`, a byte is P_0, or none is left.
-fn skip(key: Key, first: Fingerprint, until: u32, start: Mark, input: &[u8], from: usize) -> Mark
-    requires { ⌜ from ≤ length (now input) ⌝ }
-    ensures { λ r. ⌜ r ≡ skipped key first (min (until - start .at) (length (now (input .entry)) - from)) start (drop from (now (input .entry))) ⌝ }
-{
-    let end = reach(input.len(), from, distance(start.at, until));
-    let mut at = from;
-    let mut mark = start;
-    while at < end {
-        let byte = input[at];
-        if (byte as u32) == first.value {
-            return mark;
-        }
-        mark = mark.push(key, byte);
-        at = at + 1;
-    }
-    mark
-}
-
-impl Answer {
-    // Whether there is no ring and no set.
-    fn is_silent(self) -> bool
-        ensures { λ ok. ⌜ ok ≡ silent self ⌝ }
-    {
-        let ring = self.ring;
-        if let Ring::At(_) = ring {
-            return false;
-        }
-        self.asides == 0
-    }
-}
-
-impl Scan {
-    // A run whose last byte had nothing to report.
-    fn silent(matcher: Matcher, comparisons: u64, next: usize, verdict: Verdict) -> Scan
-        ensures { λ r. ⌜ r ≡ silentEnd matcher comparisons next verdict ⌝ }
-    {
-        Scan {
-            matcher,
-            answer: Answer::none(),
-            comparisons,
-            next,
-            verdict,
-        }
-    }
-}
-
-impl Matcher {
     // The run of a watch that is no misfit.
     fn run(self, input: &[u8], from: usize) -> Scan
         requires { ⌜ (matcherFits self ≡ true) × (from ≤ length (now input)) ⌝ }

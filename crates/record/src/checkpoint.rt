@@ -44,7 +44,6 @@ use crate::field::put_key;
 use crate::field::put_print;
 use crate::field::put_word;
 use crate::field::same_key;
-use fingerprint::Fingerprint;
 use matcher::Gap;
 use matcher::Mark;
 use matcher::Matcher;
@@ -222,26 +221,13 @@ fn stage_at(buf: &[u8], at: usize) -> Stage
     }
 }
 
-// A stage that lists nothing.
-fn no_stage() -> Stage
-    ensures { λ stage. ⌜ stage ≡ noStage ⌝ }
-{
-    let print = Fingerprint::empty();
-    Stage {
-        held: 0,
-        first: Mark { at: 0, print },
-        last: Mark { at: 0, print },
-        step: Gap { length: 0, print },
-    }
-}
-
 // Stage i of a checkpoint's record with k stages: nothing listed past stage k-1.
 fn stage_place(buf: &[u8], k: u32, i: usize) -> Stage
     requires { ⌜ i < 20 ⌝ }
     ensures { λ stage. ⌜ stage ≡ stagePlace (now (buf .entry)) k i ⌝ }
 {
     if (k as usize) <= i {
-        return no_stage();
+        return Stage::none();
     }
     stage_at(buf, 26 + 28 * i)
 }
@@ -249,7 +235,7 @@ fn stage_place(buf: &[u8], k: u32, i: usize) -> Stage
 fn stages_at(buf: &[u8], k: u32) -> [Stage; 20]
     ensures { λ stages. ⌜ stages ≡ tabulate (stagePlace (now (buf .entry)) k) 20 ⌝ }
 {
-    let nothing = no_stage();
+    let nothing = Stage::none();
     let mut stages = [nothing; 20];
     let mut i: usize = 0;
     while i < 20 {
@@ -292,15 +278,9 @@ fn same_pattern(buf: &[u8], signature: Signature) -> bool
 fn not_restored(refusal: Refusal) -> Restored
     ensures { λ r. ⌜ (number (r .verdict) ≡ refusalNumber refusal) × (r .matcher ≡ blank noSignature) × (r .taken ≡ 0) ⌝ }
 {
-    let nothing = no_stage();
-    let now = nothing.first;
     Restored {
         verdict: Verdict::Refused(refusal),
-        matcher: Matcher {
-            signature: Signature::none(),
-            now,
-            stages: [nothing; 20],
-        },
+        matcher: Matcher::blank(Signature::none()),
         taken: 0,
     }
 }

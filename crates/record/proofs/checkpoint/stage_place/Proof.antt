@@ -4,11 +4,11 @@ use borrow.Author.Needs.{needs}
 use Rattle.record.proofs.checkpoint.stage_place.Statement.{statement}
 use Rattle.record.proofs.checkpoint.stage_place.Tie as tie
 
-no-stage-requires : tie.Need-no-stage-requires
-no-stage-requires c κs = search needs
+none-requires : tie.Need-none-requires
+none-requires c κs = search needs
 
 returns : tie.Need-returns
-returns c = rw (le-ltb _ _ (c .before .if1 .taken)) (c .no-stage .ensures)
+returns c = rw (le-ltb _ _ (c .before .if1 .taken)) (c .none .ensures)
 
 mul-stage-at : tie.Need-mul-stage-at
 mul-stage-at c = search needs
@@ -25,4 +25,4 @@ returns-2 c = rw (lt-ltb _ _ (c .before .if1 .left)) (c .stage-at .ensures)
 pub stage-place-spec : {M : Type 1} → statement M
 stage-place-spec =
     tie.close
-    (tie.spec no-stage-requires returns mul-stage-at add-stage-at stage-at-requires returns-2)
+    (tie.spec none-requires returns mul-stage-at add-stage-at stage-at-requires returns-2)

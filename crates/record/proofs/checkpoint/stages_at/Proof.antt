@@ -17,11 +17,11 @@ Inv-loop buf k stages₀ i₀ stages i =
 abbrev μ-loop : tie.MeasureT-loop
 μ-loop buf k stages₀ i₀ stages i = 20 - i
 
-no-stage-requires : tie.Need-no-stage-requires Inv-loop μ-loop
-no-stage-requires c κs = search needs
+none-requires : tie.Need-none-requires Inv-loop μ-loop
+none-requires c κs = search needs
 
 loop-holds : tie.Need-loop-holds Inv-loop μ-loop
-loop-holds c = (omega arith, refl, fill-none _ (replicate 20 (c .no-stage .result)))
+loop-holds c = (omega arith, refl, fill-none _ (replicate 20 (c .none .result)))
 
 stage-place-requires : tie.Need-stage-place-requires Inv-loop μ-loop
 stage-place-requires c κs = search needs
@@ -61,7 +61,7 @@ stages-at-spec =
     (tie.spec
     Inv-loop
     μ-loop
-    no-stage-requires
+    none-requires
     loop-holds
     stage-place-requires
     mul-stages
