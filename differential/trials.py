@@ -5,13 +5,15 @@ The generator of patterns and streams is replayed; answers come from the ladder
 with unlimited lists (reference.py), occurrences from a search over the bytes.
 
     trials.py runs > crates/trials_runs/stdout
+    trials.py cuts > crates/trials_cuts/stdout
 """
 
+import copy
 import sys
 
 sys.dont_write_bytecode = True
 
-from card import make_card
+from card import make_card, number, write_card
 from reference import Ladder
 
 
@@ -57,9 +59,8 @@ def twin(pattern, turn, key):
     return (pattern[:turn] + bytes([upper - 1, lower + key]) + pattern[turn + 2:])[:len(pattern)]
 
 
-def pieces(pattern, shape):
+def pieces(pattern, shape, state):
     """The bytes of a stream without end, piece after piece."""
-    state = following(shape.seed)
     while True:
         kind = below(following(state), 9)
         state = following(following(state))
@@ -83,11 +84,15 @@ def pieces(pattern, shape):
 
 
 def stream_of(n, pattern, shape):
-    source = pieces(pattern, shape)
+    source = pieces(pattern, shape, following(shape.seed))
     return bytes(next(source) for _ in range(n))
 
 
 # ---- Tallies -------------------------------------------------------------------
+
+def mixed(digest, value):
+    return (digest * 65599 + value) % 4294967291
+
 
 class Tally:
     """The counters of a group."""
@@ -95,22 +100,30 @@ class Tally:
     def __init__(self):
         self.streams = self.bytes = self.occurrences = self.missed = 0
         self.rings = self.false_rings = self.sets = self.aside = 0
-        self.comparisons = self.digest = self.cuts = 0
+        self.comparisons = self.digest = self.records = 0
+        self.parked = self.resumed = self.refused = 0
 
     def mix(self, *values):
         for value in values:
-            self.digest = (self.digest * 65599 + value) % 4294967291
+            self.digest = mixed(self.digest, value)
+
+    def mix_record(self, record):
+        for byte in record:
+            self.records = mixed(self.records, byte)
 
     def answer(self, rung, sets, comparisons):
         self.rings += rung is not None
         self.sets += len(sets)
         self.aside += sum(many for _, _, many in sets)
         self.comparisons += comparisons
+        self.mix_answer(rung, sets, comparisons)
+
+    def mix_answer(self, rung, sets, comparisons):
         self.mix(comparisons, len(sets), 0 if rung is None else rung + 1)
         for one in sets:
             self.mix(*one)
 
-    def settle(self, pattern, stream, rung, aside):
+    def find(self, pattern, stream, rung, aside):
         """Occurrences, by a search over the bytes."""
         found = {start for start in range(len(stream) - len(pattern) + 1)
                  if stream.startswith(pattern, start)}
@@ -118,6 +131,9 @@ class Tally:
         self.occurrences += len(found)
         self.missed += len(found & aside)
         self.false_rings += len(rung - found)
+
+    def settle(self, pattern, stream, rung, aside):
+        self.find(pattern, stream, rung, aside)
         self.streams += 1
         self.bytes += len(stream)
 
@@ -215,5 +231,180 @@ def runs():
     print("failures 0")
 
 
+# ---- Cut runs ------------------------------------------------------------------
+
+def parked(ladder):
+    """The record of a parked watch."""
+    # "Parked watch, kind 2: m, r, fingerprint of P_k, t, F_t, then stages 0 .. k-1,
+    # seven fields each". "held, first, F_first, last, F_last, step, step print."
+    card, F = ladder.card, ladder.F
+    fields = [card.m, card.key, card.prints[-1], ladder.t, F[-1]]
+    for stage in ladder.stages:
+        held = len(stage)
+        if held == 0:
+            fields += [0] * 7
+            continue
+        first, last, step, step_print = stage[0], stage[-1], 0, 0
+        if held > 1:
+            step = stage[1] - first
+            step_print = ladder.print_of(first, step)
+        fields += [held, first, F[first], last, F[last], step, step_print]
+    body = number(2, 2) + b"".join(number(field) for field in fields)
+    return number(len(body)) + body
+
+
+def cut(ladder, tally):
+    tally.mix_record(parked(ladder))
+    tally.parked += 1
+    tally.resumed += 1
+
+
+def cut_in_turn(m, i, tally):
+    shape = shape_of(m, i)
+    pattern = trial_pattern(m, i, shape)
+    card = make_card(pattern, shape.key)
+    stream = stream_of(600 if m < 1000 else 4000, pattern, shape)
+    tally.mix_record(write_card(card))
+    ladder, rung, aside = Ladder(card), set(), set()
+    cut(ladder, tally)
+    for byte in stream:
+        answer = ladder.take(byte)
+        tally.answer(*answer)
+        rung |= {answer[0]} - {None}
+        aside |= starts(answer[1])
+        cut(ladder, tally)
+    tally.settle(pattern, stream, rung, aside)
+
+
+def cut_alone(m, i, tally):
+    """For each place of the stream a run that is cut there and nowhere else. The
+    bytes before the cut are those of the uncut run and are taken once."""
+    shape = shape_of(m, i)
+    pattern = trial_pattern(m, i, shape)
+    card = make_card(pattern, shape.key)
+    stream = stream_of(m + 100, pattern, shape)
+    tally.mix_record(write_card(card))
+    ladder, answers = Ladder(card), []
+    records = [parked(ladder)]
+    for byte in stream:
+        answers.append(ladder.take(byte))
+        records.append(parked(ladder))
+    rung = {answer[0] for answer in answers} - {None}
+    aside = {start for answer in answers for start in starts(answer[1])}
+    for taken, record in enumerate(records):
+        tally.mix_record(record)
+        tally.parked += 1
+        tally.resumed += 1
+        for answer in answers[taken:]:
+            tally.answer(*answer)
+        tally.bytes += len(stream) - taken
+        tally.find(pattern, stream, rung, aside)
+        if taken < len(stream):         # and the uncut run takes a byte more
+            tally.answer(*answers[taken])
+            tally.bytes += 1
+    tally.streams += 1
+
+
+# The watches that share a stream and a buffer: the patterns are the first bytes
+# of one, so many of each, under these keys.
+BESIDE = [(1, 2), (5, 1000003), (64, 3), (2049, 2147483646)]
+
+
+def cut_together(m, i, tally):
+    shape = shape_of(m, i)
+    pattern = trial_pattern(m, i, shape)
+    stream = stream_of(4000, pattern, shape)
+    ladders = [Ladder(make_card(pattern[:size], key)) for size, key in BESIDE]
+    rung, aside = [set() for _ in BESIDE], [set() for _ in BESIDE]
+    park_together(ladders, tally)
+    for byte in stream:
+        for j, ladder in enumerate(ladders):
+            answer = ladder.take(byte)
+            tally.answer(*answer)
+            rung[j] |= {answer[0]} - {None}
+            aside[j] |= starts(answer[1])
+        park_together(ladders, tally)
+    for j, (size, _) in enumerate(BESIDE):
+        tally.settle(pattern[:size], stream, rung[j], aside[j])
+
+
+def park_together(ladders, tally):
+    # "Several watches park one behind another, each written into the rest of the
+    # same buffer."
+    for ladder in ladders:
+        cut(ladder, tally)
+
+
+class History:
+    """A watch with its history: the bytes taken, what rang and what was set aside."""
+
+    def __init__(self, card):
+        self.ladder, self.bytes, self.rung, self.aside = Ladder(card), bytearray(), set(), set()
+
+    def take(self, byte, tally):
+        self.bytes.append(byte)
+        answer = self.ladder.take(byte)
+        tally.answer(*answer)
+        tally.bytes += 1
+        self.rung |= {answer[0]} - {None}
+        self.aside |= starts(answer[1])
+
+    def find(self, pattern, tally):
+        tally.find(pattern, bytes(self.bytes), self.rung, self.aside)
+
+
+def cut_in_lists(m, i, tally):
+    """Two lists of calls. What was parked is kept whole, with its history, and may
+    be resumed in either list."""
+    shape = shape_of(m, i)
+    pattern = trial_pattern(m, i, shape)
+    card = make_card(pattern, shape.key)
+    tally.mix_record(write_card(card))
+    source, state, kept = pieces(pattern, shape, shape.seed), shape.seed, {}
+    for _ in range(2):
+        now = History(card)
+        for _ in range(300):
+            state = following(state)
+            kind, slot = below(state, 20), below(following(state), 3)
+            if kind == 0:
+                kept[slot] = copy.deepcopy(now)
+                tally.mix_record(parked(now.ladder))
+                tally.parked += 1
+            elif kind == 1:
+                if slot in kept:
+                    now.find(pattern, tally)
+                    now = copy.deepcopy(kept[slot])
+                    tally.resumed += 1
+            elif kind in (2, 3, 4):
+                tally.refused += 1
+            else:
+                now.take(next(source), tally)
+        now.find(pattern, tally)
+        tally.streams += 1
+
+
+def cut_group(name, m, trial, numbers):
+    tally = Tally()
+    for i in numbers:
+        trial(m, i, tally)
+    print("%s, length %d: streams %d, bytes %d, parkings %d, resumptions %d, refused %d, "
+          "occurrences %d, rings %d, sets %d, digests %d %d, failures 0"
+          % (name, m, tally.streams, tally.bytes, tally.parked, tally.resumed, tally.refused,
+             tally.occurrences, tally.rings, tally.sets, tally.digest, tally.records), flush=True)
+
+
+def cuts():
+    cut_group("one behind another", 2049, cut_together, range(23, 100, 21))
+    for m in LENGTHS[:-1]:
+        small = m < 1000
+        cut_group("cut at every byte", m, cut_in_turn,
+                  range(0, 100, 7) if small else range(1, 100, 17))
+        if small or m == 2049:
+            cut_group("each cut alone", m, cut_alone, range(2, 100, 23) if small else [41])
+        if small:
+            cut_group("lists of calls", m, cut_in_lists, range(0, 100, 3))
+    print("failures 0")
+
+
 if __name__ == "__main__":
-    {"runs": runs}[sys.argv[1]]()
+    {"runs": runs, "cuts": cuts}[sys.argv[1]]()

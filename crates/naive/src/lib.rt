@@ -17,6 +17,14 @@ pub fn put(bytes: &mut [u8], i: usize, byte: u8) {
     }
 }
 
+// Stores a number in the four bytes from a place on, the lowest first.
+pub fn put_number(bytes: &mut [u8], i: usize, number: u32) {
+    put(bytes, i, (number % 256) as u8);
+    put(bytes, plus(i, 1), (number / 256 % 256) as u8);
+    put(bytes, plus(i, 2), (number / 65536 % 256) as u8);
+    put(bytes, plus(i, 3), (number / 16777216) as u8);
+}
+
 // The first n bytes, all of them if there are fewer.
 pub fn front(bytes: &[u8], n: usize) -> &[u8] {
     if n <= bytes.len() {

@@ -140,7 +140,14 @@ pub fn stages(m: usize) -> u32 {
 }
 
 // A start rang at the last byte of the stream so far. It must end there and be new; a false one must have the pattern's fingerprint.
-pub fn rung(stream: &[u8], pattern: &[u8], key: u32, start: usize, marks: &mut [u8], tally: &mut [u32]) {
+pub fn rung(
+    stream: &[u8],
+    pattern: &[u8],
+    key: u32,
+    start: usize,
+    marks: &mut [u8],
+    tally: &mut [u32],
+) {
     add(tally, RINGS, 1);
     expect(tally, plus(start, pattern.len()) == stream.len());
     expect(tally, at(marks, start) == 0);
@@ -162,7 +169,14 @@ fn put_aside(stream: &[u8], pattern: &[u8], start: usize, marks: &mut [u8], tall
 }
 
 // A set was set aside at the last byte of the stream so far; that needs a collision.
-pub fn set_aside(stream: &[u8], pattern: &[u8], key: u32, set: Progression, marks: &mut [u8], tally: &mut [u32]) {
+pub fn set_aside(
+    stream: &[u8],
+    pattern: &[u8],
+    key: u32,
+    set: Progression,
+    marks: &mut [u8],
+    tally: &mut [u32],
+) {
     add(tally, SETS, 1);
     expect(tally, collides(stream, pattern, key));
     let mut start = set.first as usize;

@@ -34,7 +34,11 @@ fn period_of(m: usize, flavour: usize, seed: u32) -> usize {
 }
 
 fn letters_of(flavour: usize, i: usize) -> u32 {
-    if flavour == ONE_TWISTED { 1 } else { LETTERS[i % 4] }
+    if flavour == ONE_TWISTED {
+        1
+    } else {
+        LETTERS[i % 4]
+    }
 }
 
 fn key_of(flavour: usize, i: usize) -> u32 {

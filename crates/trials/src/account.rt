@@ -12,7 +12,15 @@ use naive::tally::expect;
 use naive::tally::mix;
 
 // A place of the answer's list of sets: a set if it counts, else nothing.
-fn account_set(set: Progression, counts: bool, stream: &[u8], pattern: &[u8], key: u32, marks: &mut [u8], tally: &mut [u32]) {
+fn account_set(
+    set: Progression,
+    counts: bool,
+    stream: &[u8],
+    pattern: &[u8],
+    key: u32,
+    marks: &mut [u8],
+    tally: &mut [u32],
+) {
     if !counts {
         expect(tally, set.first == 0 && set.step == 0 && set.many == 0);
         return;
@@ -25,7 +33,14 @@ fn account_set(set: Progression, counts: bool, stream: &[u8], pattern: &[u8], ke
     set_aside(stream, pattern, key, found, marks, tally);
 }
 
-fn account_sets(answer: Answer, stream: &[u8], pattern: &[u8], key: u32, marks: &mut [u8], tally: &mut [u32]) {
+fn account_sets(
+    answer: Answer,
+    stream: &[u8],
+    pattern: &[u8],
+    key: u32,
+    marks: &mut [u8],
+    tally: &mut [u32],
+) {
     let mut i: u32 = 0;
     while i < 20 {
         let set = answer.sets[i as usize];
@@ -34,7 +49,14 @@ fn account_sets(answer: Answer, stream: &[u8], pattern: &[u8], key: u32, marks: 
     }
 }
 
-fn account_ring(ring: Ring, stream: &[u8], pattern: &[u8], key: u32, marks: &mut [u8], tally: &mut [u32]) {
+fn account_ring(
+    ring: Ring,
+    stream: &[u8],
+    pattern: &[u8],
+    key: u32,
+    marks: &mut [u8],
+    tally: &mut [u32],
+) {
     if let Ring::At(start) = ring {
         rung(stream, pattern, key, start as usize, marks, tally);
     }
@@ -64,7 +86,14 @@ pub fn mix_answer(answer: Answer, tally: &mut [u32]) {
 }
 
 // The answer to the last byte of the stream so far.
-pub fn account(answer: Answer, stream: &[u8], pattern: &[u8], key: u32, marks: &mut [u8], tally: &mut [u32]) {
+pub fn account(
+    answer: Answer,
+    stream: &[u8],
+    pattern: &[u8],
+    key: u32,
+    marks: &mut [u8],
+    tally: &mut [u32],
+) {
     let comparisons = answer.comparisons;
     let ceiling = (stages(pattern.len()) as u64) + 1;
     let ring = answer.ring;

@@ -7,6 +7,7 @@ use matcher::Matcher;
 use matcher::Progression;
 use matcher::Ring;
 use matcher::Stage;
+use signature::Builder;
 use signature::Signature;
 
 fn same_mark(a: Mark, b: Mark) -> bool {
@@ -50,6 +51,13 @@ pub fn same_signature(a: Signature, b: Signature) -> bool {
     let x = a.prints;
     let y = b.prints;
     a.length == b.length && a.key.r == b.key.r && same_prints(x, y)
+}
+
+pub fn same_builder(a: Builder, b: Builder) -> bool {
+    let x = a.prints;
+    let y = b.prints;
+    let same_head = a.length == b.length && a.key.r == b.key.r;
+    same_head && a.taken == b.taken && a.print.value == b.print.value && same_prints(x, y)
 }
 
 pub fn same_matcher(a: Matcher, b: Matcher) -> bool {

@@ -40,11 +40,39 @@ mod longest; // longest.rt: a pattern of 1048576 bytes
 
 // The patterns' lengths.
 const LENGTHS: [usize; 22] = [
-    1, 2, 3, 4, 5, 7, 8, 9, 15, 16, 17, 31, 32, 33, 63, 64, 65, 100, 2047, 2048, 2049, 4000,
+    1,
+    2,
+    3,
+    4,
+    5,
+    7,
+    8,
+    9,
+    15,
+    16,
+    17,
+    31,
+    32,
+    33,
+    63,
+    64,
+    65,
+    100,
+    2047,
+    2048,
+    2049,
+    4000,
 ];
 
 // One byte, the last of the stream so far: core and thin entry answer alike, and leave the same watch.
-fn strike(w: Matcher, stream: &[u8], pattern: &[u8], key: u32, marks: &mut [u8], tally: &mut [u32]) -> Matcher {
+fn strike(
+    w: Matcher,
+    stream: &[u8],
+    pattern: &[u8],
+    key: u32,
+    marks: &mut [u8],
+    tally: &mut [u32],
+) -> Matcher {
     let byte = at(stream, minus(stream.len(), 1));
     let core = w.stroke(byte);
     let thin = in_place::stroke_local(w, byte);
@@ -58,7 +86,14 @@ fn strike(w: Matcher, stream: &[u8], pattern: &[u8], key: u32, marks: &mut [u8],
 }
 
 // A fresh watch of a card, taken through a stream.
-fn run(signature: Signature, stream: &[u8], pattern: &[u8], key: u32, marks: &mut [u8], tally: &mut [u32]) {
+fn run(
+    signature: Signature,
+    stream: &[u8],
+    pattern: &[u8],
+    key: u32,
+    marks: &mut [u8],
+    tally: &mut [u32],
+) {
     let started = Matcher::start(signature);
     let verdict = started.verdict;
     expect(tally, accepted(verdict));
