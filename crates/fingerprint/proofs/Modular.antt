@@ -1,7 +1,7 @@
 -- Residues: numbers that differ by multiples of m have one residue, so an inner `% m` may be left out; and bounds of products.
 -- Assumes nothing.
-use Prim.Native.Nat.{ℕ, suc, _+_, _-_, _*_, _/_, _%_, _^_, _≤_, _<_}
-use mathlib.Core.Path.{_≡_, refl, sym, _∙_, ap}
+use Prim.Native.Nat.{ℕ, _+_, _-_, _*_, _/_, _%_, _≤_}
+use mathlib.Core.Path.{_≡_, sym, _∙_, ap}
 use native.Mathlib.Nat.{add-mul-mod-self-left, mod-add-div, mul-le-mul}
 use native.Mathlib.Omega.{arith}
 

@@ -2,7 +2,7 @@
 -- It is written for any pattern p and any test `agree` that says of two blocks of one length whether their fingerprints are equal.
 -- The history h holds the bytes taken so far, the present one included, so t is its length.
 use Prim.Native.Nat.{ℕ, zero, suc, _+_, _-_}
-use mathlib.Core.Bool.{Bool, true, false, cond, _&&_, _||_}
+use mathlib.Core.Bool.{Bool, false, cond, _&&_, _||_}
 use mathlib.Core.List.{List, [], _∷_, _++_}
 use mathlib.Core.Option.{Option, none, some}
 use lib.ListN.{length, take}

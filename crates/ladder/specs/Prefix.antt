@@ -1,6 +1,6 @@
 -- The pattern's tested beginnings (document 01, "Card"), and blocks of a stream (document 01, "Whole runs").
 use Prim.Native.Nat.{ℕ, zero, suc, _^_, min}
-use mathlib.Core.Bool.{Bool, true, false}
+use mathlib.Core.Bool.{true, false}
 use mathlib.Core.List.{List}
 use lib.ListN.{length, take, drop}
 use lib.Dec.{leb}

@@ -11,10 +11,8 @@ use lib.ListN.{length, getD, take}
 use lib.Seq.{take-suc, length-take-le}
 use borrow.Author.Tests.{lt-ltb, ne-eqb}
 use Rattle.refusal.specs.declared.Verdict.{Verdict}
-use Rattle.refusal.specs.declared.Verdict.the-variants.{Accepted, Refused}
-use Rattle.refusal.specs.declared.Refusal.{Refusal}
+use Rattle.refusal.specs.declared.Verdict.the-variants.{Accepted}
 use Rattle.refusal.specs.Number.{number}
-use Rattle.refusal.proofs.Distinct.{number-injective}
 use Rattle.fingerprint.specs.declared.Key.{Key}
 use Rattle.signature.specs.declared.Builder.{Builder}
 use Rattle.signature.specs.Signature.{maxLength, noSignature, signatureOf}
@@ -23,10 +21,6 @@ use Rattle.signature.specs.Made.{Making, begins, takes}
 use Rattle.maker.specs.Maker.{makeRefusal, madeSignature}
 use Rattle.making.proofs.Calls.{length-limits, begin-tells, push-accepted, finish-accepted}
 use Rattle.making.proofs.Made.{making-state, made-card}
-
--- a refusal's number is not 0
-pub refused-some : {v : Verdict} {r : Refusal} → v ≡ Refused r → number v ≡ 0 → ⊥
-refused-some {v} e z = let w = number-injective v Accepted z in let n : _≡_ {A = ℕ} 0 1 = cc in omega arith
 
 -- the length that the maker is told stands for every length above the longest
 told-refusal : (n : ℕ) (key : Key) → beginRefusal (min n 1048577) key ≡ beginRefusal n key

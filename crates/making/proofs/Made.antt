@@ -14,10 +14,12 @@ use Rattle.fingerprint.specs.Fingerprint.{p as modulus, keyFits, empty, fp, sam
 use Rattle.fingerprint.proofs.Laws.{fp-below, fp-push}
 use Rattle.signature.specs.declared.Signature.{Signature}
 use Rattle.signature.specs.declared.Builder.{Builder}
-use Rattle.signature.specs.Signature.{maxLength, lengthFits, builderFits, signatureFits, signatureOf}
+use Rattle.signature.specs.Signature.{maxLength, lengthFits, builderFits, signatureOf}
 use Rattle.signature.specs.Maker.{beginRefusal, begun, oneMore}
 use Rattle.signature.specs.Made.{Making, begins, takes, refuses-byte, asks-for-card, Made}
-use Rattle.making.specs.Making.{Bytes, builderOf, MadeBuilder, MadeSignature}
+use Rattle.sequence.specs.Sequence.{Bytes}
+use Rattle.making.specs.Making.{builderOf, MadeBuilder, MadeSignature}
+use Rattle.signature.proofs.Card.{card-fits}
 use Rattle.making.proofs.Calls.{length-limits, length-fits, begin-tells, begin-accepted, push-tells, push-accepted, push-takes, push-leaves, finish-accepted, finish-gives}
 use Rattle.making.proofs.Prints.{length-snoc, no-prints, more-prints, all-prints, prints-fit}
 
@@ -73,16 +75,6 @@ module _ (m : ℕ) (key : Key) (length-ok : lengthFits m ≡ true) (key-ok : key
         fits = rw e (builder-fits bytes all l);
       }
 
--- nor is the card of a passage within the limits
-pub card-fits :
-    (key : Key) (p : List ℕ)
-    → lengthFits (length p) ≡ true
-    → keyFits key ≡ true
-    → Bytes p
-    → signatureFits (signatureOf key p) ≡ true
-unfolding signatureFits signatureOf
-card-fits key p h k all = rw (h, k, ← all-prints key p) (prints-fit (length p) key p all)
-
 -- one byte more
 bytes-snoc : (bytes : List ℕ) (byte : ℕ) → Bytes bytes → byte < 256 → Bytes (bytes ++ byte ∷ [])
 bytes-snoc bytes byte all h i l =
@@ -114,7 +106,7 @@ made-card {key} {p} {card} made =
     let limits = length-limits (length p) (s .length-fits) in
     record {
       state = e;
-      fits = rw e (card-fits key p (s .length-fits) (s .key-fits) (s .all-bytes));
+      fits = rw e (card-fits key p (limits .0) (limits .1) (s .key-fits) (s .all-bytes));
       not-empty = limits .0;
       not-overlong = limits .1;
       key-fits = s .key-fits;

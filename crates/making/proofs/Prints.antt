@@ -18,7 +18,8 @@ use Rattle.ladder.specs.Prefix.{levels, prefixLength, prefix}
 use Rattle.sequence.specs.Sequence.{tabulate}
 use Rattle.sequence.proofs.Laws.{every-intro, length-tabulate, getD-tabulate, tabulated}
 use Rattle.signature.specs.Signature.{places, reached, printsFit, stored}
-use Rattle.making.specs.Making.{Bytes, printsOf}
+use Rattle.sequence.specs.Sequence.{Bytes}
+use Rattle.making.specs.Making.{printsOf}
 
 -- tables with equal entries are equal
 same-table :

@@ -1,21 +1,17 @@
 -- The half-made card as a function of what the maker was told and of the bytes that it took; and what is said of it and of the card.
-use Prim.Native.Nat.{ℕ, _≤_, _<_}
+use Prim.Native.Nat.{ℕ, _≤_}
 use mathlib.Core.Path.{_≡_}
 use mathlib.Core.Bool.{true, cond}
 use mathlib.Core.List.{List}
-use lib.ListN.{length, getD, take}
+use lib.ListN.{length, take}
 use Rattle.fingerprint.specs.declared.Key.{Key}
 use Rattle.fingerprint.specs.declared.Fingerprint.{Fingerprint}
 use Rattle.fingerprint.specs.Fingerprint.{keyFits, empty, fp}
 use Rattle.ladder.specs.Prefix.{prefixLength}
-use Rattle.sequence.specs.Sequence.{tabulate}
+use Rattle.sequence.specs.Sequence.{tabulate, Bytes}
 use Rattle.signature.specs.declared.Signature.{Signature}
 use Rattle.signature.specs.declared.Builder.{Builder}
 use Rattle.signature.specs.Signature.{maxLength, lengthFits, places, reached, signatureFits, builderFits, signatureOf}
-
--- Each number of the list is a byte.
-abbrev pub Bytes : List ℕ → Type 0
-Bytes l = (i : ℕ) → i < length l → getD l i 0 < 256
 
 -- The prints once these bytes of a pattern of m bytes are taken: those of the prefixes reached, and 0.
 unfoldable pub printsOf : ℕ → Key → List ℕ → List Fingerprint

@@ -16,7 +16,7 @@ use Rattle.matcher.specs.declared.Gap.{Gap}
 use Rattle.matcher.specs.declared.Stage.{Stage}
 use Rattle.matcher.specs.Matcher.{noStage, noGap, origin, sameMark, sameGap, ageFits, noneFits, oneFits, manyFit, stageFits}
 use Rattle.matcher.specs.Stroke.{alone}
-use Rattle.matcher.proofs.Cases.{by-test, each}
+use Rattle.sequence.proofs.Cases.{by-test, each}
 
 -- A start of stage i that is old enough at `lo` and young enough at `hi`.
 pub record Aged (m i lo hi start : ℕ) : Type 0 where

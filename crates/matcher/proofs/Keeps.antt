@@ -15,7 +15,7 @@ use Rattle.matcher.specs.declared.Mark.{Mark}
 use Rattle.matcher.specs.declared.Stage.{Stage}
 use Rattle.matcher.specs.Matcher.{sameGap}
 use Rattle.matcher.specs.Stroke.{alone, gapTo, takenOff, entered}
-use Rattle.matcher.proofs.Cases.{by-test}
+use Rattle.sequence.proofs.Cases.{by-test}
 use Rattle.matcher.proofs.Fit.{Aged, Many, Fit, idle, single, several}
 
 module _ (m i : ℕ) (s : Stage) where

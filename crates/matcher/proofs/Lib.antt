@@ -1,4 +1,3 @@
-pub mod Cases
 pub mod Fit
 pub mod Rounds
 pub mod Ceiling

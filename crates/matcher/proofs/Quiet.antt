@@ -1,8 +1,8 @@
 -- A byte at which no start is ripe and which is not P_0 only moves t and F_t on; so do several of them.
 -- Assumes nothing.
-use Prim.Native.Nat.{ℕ, zero, suc, _+_, _-_, _*_, _^_, _%_, _≤_, _<_}
-use mathlib.Core.Path.{_≡_, refl, sym, _∙_, ap}
-use mathlib.Core.Bool.{Bool, true, false, cond, not}
+use Prim.Native.Nat.{ℕ, zero, suc, _+_, _-_, _*_, _%_, _≤_, _<_}
+use mathlib.Core.Path.{_≡_, refl, _∙_, ap}
+use mathlib.Core.Bool.{true, false, cond}
 use mathlib.Core.List.{List, [], _∷_}
 use native.Mathlib.Nat.{pow-zero, pow-suc}
 use native.Mathlib.Decide.{ℕ-discrete}
@@ -23,10 +23,10 @@ use Rattle.matcher.specs.declared.Matcher.{Matcher}
 use Rattle.matcher.specs.declared.Walk.{Walk}
 use Rattle.matcher.specs.declared.Round.{Round}
 use Rattle.matcher.specs.Matcher.{maxTaken, noStage, matcherFits}
-use Rattle.matcher.specs.Stroke.{gapTo, noAnswer, compared, nextMark, matches, tried, ripe, visited, descended, walkedFrom, walked, strokeRefusal, strokeAnswer, afterStroke}
+use Rattle.matcher.specs.Stroke.{noAnswer, compared, nextMark, matches, tried, ripe, descended, walkedFrom, walked, strokeRefusal, strokeAnswer, afterStroke}
 use Rattle.matcher.specs.Scan.{Scanned, onward, scanned}
 use Rattle.matcher.specs.Skip.{skipped, Unripe}
-use Rattle.matcher.proofs.Cases.{by-test}
+use Rattle.sequence.proofs.Cases.{by-test}
 use Rattle.matcher.proofs.Rounds.{visit-unripe}
 use Rattle.matcher.proofs.StrokeFits.{stroke-fits}
 

@@ -1,6 +1,6 @@
 -- One byte's walk over the stages: what a visit makes of the walk, and what keeps every number in range on the way.
 -- Assumes nothing.
-use Prim.Native.Nat.{ℕ, zero, suc, _+_, _-_, _*_, _^_, _%_, _≤_, _<_}
+use Prim.Native.Nat.{ℕ, zero, suc, _+_, _-_, _^_, _%_, _≤_, _<_}
 use mathlib.Core.Path.{_≡_, refl, sym, _∙_, ap}
 use mathlib.Core.Bool.{Bool, true, false, cond, not, _&&_}
 use mathlib.Core.List.{List, [], _∷_}
@@ -13,7 +13,7 @@ use lib.Dec.{leb, eqb}
 use lib.ListN.{length, getD, set, length-set, List·getD-eq-default}
 use lib.Seq.{getD-set-same, getD-set-other}
 use Rattle.fingerprint.specs.declared.Key.{Key}
-use Rattle.fingerprint.specs.Fingerprint.{p, keyFits, printFits, same, empty}
+use Rattle.fingerprint.specs.Fingerprint.{p, printFits, same, empty}
 use Rattle.signature.specs.Signature.{maxLength, signatureFits}
 use Rattle.ladder.specs.Prefix.{levels, prefixLength}
 use Rattle.ladder.proofs.Levels.{levels-bound, length-within, first-length}
@@ -30,7 +30,7 @@ use Rattle.matcher.specs.declared.Walk.{Walk}
 use Rattle.matcher.specs.Matcher.{noStage, fitsAt, stagesFit, stageFits, matcherFits}
 use Rattle.matcher.specs.Stroke.{noAnswer, ringing, withSet, withAside, compared, takenOff, entered, setsAside, asideOf, allButLast, ripe, matches, promoted, promotedUnder, tried, visited, descended, walkedFrom}
 use Rattle.matcher.specs.Skip.{Shifts}
-use Rattle.matcher.proofs.Cases.{by-test, each}
+use Rattle.sequence.proofs.Cases.{by-test, each}
 use Rattle.matcher.proofs.Fit.{Fit, idle, single, several, Many, fit-of}
 
 -- what entering set aside, put into the answer

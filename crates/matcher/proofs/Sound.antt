@@ -17,7 +17,7 @@ use Rattle.signature.specs.Signature.{maxLength, signatureFits}
 use Rattle.matcher.specs.declared.Matcher.{Matcher}
 use Rattle.matcher.specs.Matcher.{stageCount, noStage, stageFits, matcherFits}
 use Rattle.matcher.specs.Stroke.{nextMark, walked, strokeRefusal, afterStroke}
-use Rattle.matcher.proofs.Cases.{by-test, each}
+use Rattle.sequence.proofs.Cases.{by-test, each}
 use Rattle.matcher.proofs.Fit.{Fit, fit-of, fits-of}
 
 -- What a watch that is no misfit says of itself.

@@ -22,7 +22,7 @@ use Rattle.matcher.specs.Matcher.{stageCount, noStage, matcherFits}
 use Rattle.matcher.specs.Stroke.{takenOff, entered, nextMark, noAnswer, promoted, promotedUnder, matches, tried, ripe, visited, descended, walkedFrom, walked, strokeRefusal, afterStroke}
 use Rattle.matcher.specs.declared.Walk.{Walk}
 use Rattle.matcher.specs.declared.Round.{Round}
-use Rattle.matcher.proofs.Cases.{by-test}
+use Rattle.sequence.proofs.Cases.{by-test}
 use Rattle.matcher.proofs.Fit.{Fit, idle, fit-past, fit-print}
 use Rattle.matcher.proofs.Sound.{Sound, sound, sound-fits, taken-fits, after-taken}
 use Rattle.matcher.proofs.Keeps.{fit-later, fit-unripe, fit-off, fit-entered}

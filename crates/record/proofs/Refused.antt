@@ -1,14 +1,14 @@
 -- "A refused call changes .. no byte of a buffer": what a refused writer leaves, also behind a used part.
 -- Assumes nothing.
-use Prim.Native.Nat.{ℕ, _+_}
-use mathlib.Core.Path.{_≡_, refl, _∙_, ap}
+use Prim.Native.Nat.{ℕ}
+use mathlib.Core.Path.{_≡_}
 use mathlib.Core.Bool.{Bool}
-use mathlib.Core.List.{List, _++_}
+use mathlib.Core.List.{List}
 use native.Mathlib.Nat.{add-zero}
-use lib.ListN.{take, drop, take-append-drop}
+use lib.ListN.{take-append-drop}
 use borrow.Author.Tests.{ne-eqb}
 use Rattle.matcher.specs.declared.Matcher.{Matcher}
-use Rattle.record.specs.Calls.{putRefusal, putUsed, putBuffer, behindRefusal, behindUsed, behindBuffer}
+use Rattle.record.specs.Calls.{putRefusal, putBuffer, behindRefusal, behindUsed, behindBuffer}
 
 pub refused-put : (fits : Bool) (bytes entry : List ℕ) → (putRefusal fits bytes entry ≡ 0 → ⊥) → putBuffer fits bytes entry ≡ entry
 refused-put fits bytes entry refused = rw (ne-eqb _ _ refused)

@@ -23,7 +23,7 @@ use Rattle.signature.specs.declared.Signature.{Signature}
 use Rattle.signature.specs.Signature.{maxLength, places, signatureFits, signatureOf}
 use Rattle.matcher.specs.Matcher.{fresh}
 use Rattle.refinement.specs.Refinement.{agreeUnder, AsLadder}
-use Rattle.refinement.proofs.Card.{SoundCard, sound-card, card-prints}
+use Rattle.signature.proofs.Card.{SoundCard, sound-card, card-prints}
 use Rattle.refinement.proofs.WatchFits.{card-start}
 use Rattle.refinement.proofs.Refines.{card-refines}
 

@@ -28,7 +28,7 @@ use Rattle.matcher.specs.Stroke.{gapTo, entered, setsAside, allButLast, withSet
 use Rattle.matcher.specs.declared.Walk.{Walk}
 use Rattle.matcher.specs.declared.Round.{Round}
 use Rattle.refinement.specs.Refinement.{agreeUnder, markAt, summary, readSet, readAnswer}
-use Rattle.matcher.proofs.Cases.{by-test}
+use Rattle.sequence.proofs.Cases.{by-test}
 use Rattle.refinement.proofs.Summary.{gapOf, gap-between, summary-entered, summary-aside}
 
 abbrev counted : ladder.Walk → ladder.Walk

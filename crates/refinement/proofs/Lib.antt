@@ -1,7 +1,6 @@
 pub mod Summary
 pub mod Follow
 pub mod Visits
-pub mod Card
 pub mod WatchFits
 pub mod Refines
 pub mod EveryCard

@@ -26,8 +26,9 @@ use Rattle.signature.specs.Signature.{maxLength, signatureFits, signatureOf}
 use Rattle.matcher.specs.Matcher.{maxTaken, stageCount, noStage}
 use Rattle.matcher.specs.Stroke.{nextMark, walkedFrom, walked, strokeRefusal, strokeAnswer}
 use Rattle.matcher.specs.declared.Walk.{Walk}
-use Rattle.refinement.specs.Refinement.{Bytes, agreeUnder, markAt, summary, watchOf, Refines}
-use Rattle.refinement.proofs.Card.{card-prints, card-fits}
+use Rattle.sequence.specs.Sequence.{Bytes}
+use Rattle.refinement.specs.Refinement.{agreeUnder, markAt, summary, watchOf, Refines}
+use Rattle.signature.proofs.Card.{card-prints, card-fits}
 use Rattle.refinement.proofs.Summary.{mark-grown, summary-grown}
 use Rattle.refinement.proofs.Follow.{Scene, top, Follows}
 use Rattle.refinement.proofs.Visits.{Upon, step-follows}

@@ -22,7 +22,7 @@ use Rattle.ladder.proofs.Gaps.{Alike}
 use Rattle.matcher.specs.declared.Gap.{Gap}
 use Rattle.matcher.specs.Matcher.{sameGap}
 use Rattle.matcher.specs.Stroke.{alone, gapTo, forward, takenOff, entered, setsAside, allButLast}
-use Rattle.matcher.proofs.Cases.{by-test}
+use Rattle.sequence.proofs.Cases.{by-test}
 use Rattle.matcher.proofs.Fit.{stage-by}
 use Rattle.refinement.specs.Refinement.{agreeUnder, markAt, summary, readSet}
 

@@ -23,10 +23,11 @@ use Rattle.sequence.specs.Sequence.{tabulate}
 use Rattle.sequence.proofs.Laws.{getD-tabulate}
 use Rattle.signature.specs.Signature.{maxLength, signatureFits, signatureOf}
 use Rattle.matcher.specs.Matcher.{stageCount, noStage, matcherFits, freshRefusal, blank, fresh}
-use Rattle.refinement.specs.Refinement.{Bytes, agreeUnder, summary, watchOf}
+use Rattle.sequence.specs.Sequence.{Bytes}
+use Rattle.refinement.specs.Refinement.{agreeUnder, summary, watchOf}
 use Rattle.matcher.proofs.Fit.{Fit, idle, single, several}
 use Rattle.matcher.proofs.Sound.{sound-fits}
-use Rattle.refinement.proofs.Card.{sound-card, card-fits}
+use Rattle.signature.proofs.Card.{sound-card, card-fits}
 
 -- only below k are the tested beginnings of stages i and i + 1 of different length
 rises-below : (m i : ℕ) → prefixLength m i < prefixLength m (suc i) → i < levels m

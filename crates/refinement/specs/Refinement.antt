@@ -4,7 +4,7 @@ use mathlib.Core.Path.{_≡_}
 use mathlib.Core.Bool.{Bool}
 use mathlib.Core.List.{List, [], _∷_, _++_, map}
 use mathlib.Core.Option.{Option, none, some}
-use lib.ListN.{length, take, getD}
+use lib.ListN.{length, take}
 use Rattle.fingerprint.specs.declared.Key.{Key}
 use Rattle.fingerprint.specs.Fingerprint.{same, fp}
 use Rattle.ladder.specs.Prefix.{block}
@@ -21,10 +21,6 @@ use Rattle.matcher.specs.declared.Progression.{Progression}
 use Rattle.matcher.specs.declared.Answer.{Answer}
 use Rattle.matcher.specs.Matcher.{maxTaken, stageCount, noStage, freshRefusal, fresh}
 use Rattle.matcher.specs.Stroke.{alone, strokeRefusal, strokeAnswer, afterStroke}
-
--- Each number of the list is a byte.
-abbrev pub Bytes : List ℕ → Type 0
-Bytes l = (i : ℕ) → i < length l → getD l i 0 < 256
 
 -- The ladder's test of two blocks: whether their fingerprints under the key are equal.
 abbrev pub agreeUnder : Key → List ℕ → List ℕ → Bool

@@ -3,7 +3,9 @@
 use Prim.Native.Nat.{ℕ}
 use mathlib.Core.Path.{_≡_, refl, sym, _∙_, ap}
 use mathlib.Core.Bool.{cond}
+use native.Mathlib.Omega.{arith}
 use lib.Dec.{eqb}
+use Rattle.refusal.specs.declared.Refusal.{Refusal}
 use Rattle.refusal.specs.declared.Refusal.the-variants.{Empty, Overlong, Key, Unfinished, Surplus, Spent, NoSpace, Short, Kind, Misfit, OtherPassage}
 use Rattle.refusal.specs.declared.Verdict.{Verdict}
 use Rattle.refusal.specs.declared.Verdict.the-variants.{Accepted, Refused}
@@ -41,3 +43,7 @@ told (Refused OtherPassage) = refl
 
 pub number-injective : (v u : Verdict) → number v ≡ number u → v ≡ u
 number-injective v u e = sym (told v) ∙ ap verdictOf e ∙ told u
+
+-- a refusal's number is not 0
+pub refused-some : {v : Verdict} {r : Refusal} → v ≡ Refused r → number v ≡ 0 → ⊥
+refused-some {v} e z = let w = number-injective v Accepted z in let n : _≡_ {A = ℕ} 0 1 = cc in omega arith

@@ -8,11 +8,8 @@ use native.Mathlib.Omega.{arith}
 use lib.ListN.{length, take, drop, length-drop}
 use lib.Seq.{drop-drop}
 use borrow.Author.Tests.{leb-true, le-leb, ne-eqb}
-use Rattle.refusal.specs.declared.Refusal.{Refusal}
-use Rattle.refusal.specs.declared.Verdict.{Verdict}
-use Rattle.refusal.specs.declared.Verdict.the-variants.{Accepted, Refused}
+use Rattle.refusal.specs.declared.Verdict.the-variants.{Accepted}
 use Rattle.refusal.specs.Number.{number}
-use Rattle.refusal.proofs.Distinct.{number-injective}
 use Rattle.matcher.specs.declared.Matcher.{Matcher}
 use Rattle.matcher.specs.declared.Scan.{Scan}
 use Rattle.matcher.specs.Scan.{scanned}
@@ -185,10 +182,6 @@ feeds-none p input from entry at f =
       moves = λ h. absurd (true≢false (sym h ∙ f));
       idle = λ h. refl;
     }
-
--- a refusal's number is not 0
-pub refused-some : {v : Verdict} {r : Refusal} → v ≡ Refused r → number v ≡ 0 → ⊥
-refused-some {v} e z = let w = number-injective v Accepted z in let n : _≡_ {A = ℕ} 0 1 = cc in omega arith
 
 -- the last lines
 pub last-accepted : (p : Progress) → p .verdict ≡ Accepted → pending p [] ≡ lastLine (p .matcher) (p .total)

@@ -18,7 +18,7 @@ use Rattle.matcher.specs.declared.Answer.{Answer}
 use Rattle.matcher.specs.Matcher.{matcherFits}
 use Rattle.matcher.specs.Stroke.{noAnswer, strokeRefusal, strokeAnswer, afterStroke}
 use Rattle.matcher.specs.Scan.{silentRing, silent, Scanned, onward, scanned}
-use Rattle.matcher.proofs.Cases.{by-test}
+use Rattle.sequence.proofs.Cases.{by-test}
 use Rattle.matcher.proofs.Ceiling.{ceiling}
 use Rattle.matcher.proofs.Rounds.{ready}
 use Rattle.listing.specs.Listing.{ringLines, reportLines}

@@ -11,7 +11,7 @@ use lib.Seq.{take-append-le, drop-append-le}
 use borrow.Author.Tests.{eqb-true, ltb-false}
 use Rattle.refusal.specs.Number.{number}
 use Rattle.matcher.specs.Matcher.{fresh, freshRefusal}
-use Rattle.matcher.proofs.Cases.{by-test}
+use Rattle.sequence.proofs.Cases.{by-test}
 use Rattle.signature.specs.declared.Signature.{Signature}
 use Rattle.record.specs.Layout.{lengthField, signatureKind}
 use Rattle.record.specs.Calls.{headRefusal, signatureLeast, readRefusal, readSignature, readTaken}

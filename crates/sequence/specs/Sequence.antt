@@ -1,7 +1,8 @@
--- Tests and tables over the places 0 .. n-1.
-use Prim.Native.Nat.{ℕ, zero, suc}
+-- Tests and tables over the places 0 .. n-1, and lists of bytes.
+use Prim.Native.Nat.{ℕ, zero, suc, _<_}
 use mathlib.Core.Bool.{Bool, true, _&&_}
 use mathlib.Core.List.{List, [], _∷_, _++_}
+use lib.ListN.{length, getD}
 
 -- whether a test passes at each place below n
 unfoldable pub every : (ℕ → Bool) → ℕ → Bool
@@ -12,3 +13,7 @@ every test (suc n) = every test n && test n
 unfoldable pub tabulate {ℓ} : {A : Type ℓ} → (ℕ → A) → ℕ → List A
 tabulate f zero = []
 tabulate f (suc n) = tabulate f n ++ f n ∷ []
+
+-- Each number of the list is a byte.
+abbrev pub Bytes : List ℕ → Type 0
+Bytes l = (i : ℕ) → i < length l → getD l i 0 < 256

@@ -1,9 +1,9 @@
 -- The card maker's three calls: for each the number of its refusal, 0 where it is accepted, and what it hands back.
 use Prim.Native.Nat.{ℕ, suc}
-use mathlib.Core.Bool.{Bool, cond}
-use lib.Dec.{ltb, leb, eqb}
+use mathlib.Core.Bool.{cond}
+use lib.Dec.{ltb, eqb}
 use Rattle.fingerprint.specs.declared.Key.{Key}
-use Rattle.fingerprint.specs.Fingerprint.{keyFits, empty, pushed}
+use Rattle.fingerprint.specs.Fingerprint.{keyFits, pushed}
 use Rattle.signature.specs.declared.Signature.{Signature}
 use Rattle.signature.specs.declared.Builder.{Builder}
 use Rattle.signature.specs.Signature.{maxLength, builderFits, stored, nothingTaken, noBuilder, noSignature}

@@ -1,8 +1,8 @@
 -- Cards and half-made cards, and when they misfit (document 01, "Card" and "Misfit").
-use Prim.Native.Nat.{ℕ, suc, _+_}
+use Prim.Native.Nat.{ℕ}
 use mathlib.Core.Bool.{Bool, true, cond, _&&_}
-use mathlib.Core.List.{List, []}
-use lib.ListN.{length, getD, take, replicate}
+use mathlib.Core.List.{List}
+use lib.ListN.{length, getD, replicate}
 use lib.Dec.{leb, eqb}
 use Rattle.fingerprint.specs.declared.Key.{Key}
 use Rattle.fingerprint.specs.declared.Fingerprint.{Fingerprint}

@@ -15,7 +15,7 @@ use Rattle.matcher.specs.Matcher.{matcherFits}
 use Rattle.record.specs.Layout.{checkpointRecord}
 use Rattle.record.specs.Calls.{putRefusal, putUsed, putBuffer, saveUsed, saveBuffer, behindRefusal, behindBuffer}
 use Rattle.record.proofs.Sizes.{checkpoint-size}
-use Rattle.matcher.proofs.Cases.{by-test}
+use Rattle.sequence.proofs.Cases.{by-test}
 use Rattle.whole_run.specs.Run.{Begins}
 
 -- the buffer is the bytes that it begins with and a rest

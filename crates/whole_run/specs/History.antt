@@ -1,6 +1,6 @@
 -- Histories (document 01, "Whole runs").
 use Prim.Native.Nat.{ℕ, zero, suc}
-use mathlib.Core.List.{List, [], _∷_, map}
+use mathlib.Core.List.{List, map}
 use lib.ListN.{getD}
 use Rattle.ladder.specs.Ladder as ladder
 use Rattle.matcher.specs.declared.Answer.{Answer}

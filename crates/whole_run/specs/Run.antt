@@ -23,7 +23,7 @@ use Rattle.record.specs.Calls.{
   restoreRefusal,
   restoredMatcher,
 }
-use Rattle.whole_run.specs.History.{Taken, History}
+use Rattle.whole_run.specs.History.{History}
 
 -- A buffer begins with these bytes.
 abbrev pub Begins : List ℕ → List ℕ → Type 0

@@ -8,7 +8,7 @@ use lib.Dec.{ltb}
 use lib.ListN.{length}
 use lib.Seq.{length-take-le}
 use borrow.Author.Tests.{ltb-false}
-use Rattle.matcher.proofs.Cases.{by-test}
+use Rattle.sequence.proofs.Cases.{by-test}
 use Rattle.signature.specs.Signature.{signatureFits}
 use Rattle.record.specs.Layout.{signatureRecord}
 use Rattle.record.specs.Calls.{putUsed}

@@ -12,7 +12,8 @@ use Rattle.fingerprint.specs.declared.Key.{Key}
 use Rattle.signature.specs.Made.{Making}
 use Rattle.maker.specs.Maker.{makeRefusal}
 use Rattle.signature.specs.Signature.{signatureOf}
-use Rattle.maker.proofs.Passage.{refused-some, Began, begin-number, began, more, given, made-none, made-own}
+use Rattle.refusal.proofs.Distinct.{refused-some}
+use Rattle.maker.proofs.Passage.{Began, begin-number, began, more, given, made-none, made-own}
 use Rattle.maker.proofs.make.Statement.{statement}
 use Rattle.maker.proofs.make.Tie as tie
 

@@ -3,7 +3,7 @@ use borrow.Author.Needs.{needs}
 use Prim.Native.Nat.{_+_, _-_, _≤_, min}
 use mathlib.Core.Path.{_≡_, sym, _∙_, ap}
 use native.Mathlib.Omega.{arith}
-use lib.ListN.{length, drop, getD}
+use lib.ListN.{length, drop}
 use Rattle.matcher.specs.declared.Mark.{Mark}
 use Rattle.matcher.specs.Skip.{skipped}
 use Rattle.matcher.proofs.Quiet.{skipped-none, skipped-stop, skipped-step}

@@ -7,7 +7,7 @@ use native.Mathlib.Omega.{arith}
 use lib.ListN.{length}
 use borrow.Author.Needs.{needs}
 use borrow.Author.Tests.{le-leb}
-use Rattle.matcher.proofs.Cases.{by-test}
+use Rattle.sequence.proofs.Cases.{by-test}
 use Rattle.report.specs.declared.State.{State}
 use Rattle.report.specs.State.{Ready}
 use Rattle.report.proofs.run.Statement.{statement}

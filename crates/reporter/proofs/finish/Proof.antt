@@ -7,7 +7,8 @@ use borrow.Author.Tests.{leb-true, leb-false, not-true, not-false}
 use Rattle.listing.specs.Listing.{lineX, room}
 use Rattle.refusal.specs.Number.{number}
 use Rattle.reporter.proofs.Putting.{placed-next, last-full, last-one, last-two}
-use Rattle.reporter.proofs.Feeding.{refused-some, last-accepted, last-refused}
+use Rattle.refusal.proofs.Distinct.{refused-some}
+use Rattle.reporter.proofs.Feeding.{last-accepted, last-refused}
 use borrow.Author.Needs.{needs}
 use Rattle.reporter.proofs.finish.Statement.{statement}
 use Rattle.reporter.proofs.finish.Tie as tie

@@ -16,8 +16,6 @@ use Rattle.record.proofs.Restoring.{card-misfits, restore-nothing, unre
 use borrow.Author.Needs.{needs}
 use Rattle.record.proofs.checkpoint.restore.Statement.{statement}
 use Rattle.record.proofs.checkpoint.restore.Tie as tie
-use Rattle.matcher.proofs.Matcher.fits.Reads as Matcher-fits-reads
-use Rattle.signature.proofs.Signature.fits.Reads as Signature-fits-reads
 
 fits-requires : tie.Need-fits-requires
 fits-requires c κs = search needs
