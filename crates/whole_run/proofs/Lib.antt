@@ -5,3 +5,4 @@ pub mod Tracks
 pub mod Resuming
 pub mod Claims
 pub mod Theorem
+pub mod Scans

@@ -29,8 +29,9 @@ with-requires c κs = c .before .before .before .before .before .before .pre .1
 returns-2 : tie.Need-returns-2
 unfolding promotedUnder
 returns-2 c =
+    let if1 = c .before .before .before .before .before .if1 in
     let enter = c .before .before .enter in
-    rw (ne-eqb 0 _ (λ e. c .before .before .before .before .before .if1 .left (sym e)), c .with .ensures, enter .ensures .0, enter .ensures .1, with-aside)
+    rw (ne-eqb 0 _ (λ e. if1 .left (sym e)), c .with .ensures, enter .ensures .0, enter .ensures .1, with-aside)
 
 pub admit-spec : {M : Type 1} → statement M
 admit-spec =

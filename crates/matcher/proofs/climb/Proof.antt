@@ -33,21 +33,26 @@ admit-requires c κs =
 
 returns : tie.Need-returns
 returns c =
+    let levels = c .before .before .before .before .before .before .before .before .before .levels in
+    let descend = c .before .before .before .before .before .before .before .before .descend in
+    let matches = c .before .before .matches in
     let args = c .before .before .before .before .before .before .before .before .before .before .args in
     let pre = c .before .before .before .before .before .before .before .before .before .before .pre in
     let shift = first-shift (args .c) (args .start) (args .t2) (pre .0) (pre .3) (pre .2) in
     c .admit .ensures
     ∙ rw add-one
-    (climbed-promoted (args .c) (c .before .before .before .before .before .before .before .before .before .levels .result) (args .start) (args .before) (c .before .before .before .before .before .before .before .before .descend .result) (c .before .before .before .before .before .before .before .before .before .levels .ensures) (c .before .before .before .before .before .before .before .before .descend .ensures .0)
-    (sym (c .before .before .matches .ensures (args .c .signature .key) shift) ∙ c .before .if1 .taken))
+    (climbed-promoted (args .c) (levels .result) (args .start) (args .before) (descend .result) (levels .ensures) (descend .ensures .0)
+    (sym (matches .ensures (args .c .signature .key) shift) ∙ c .before .if1 .taken))
 
 returns-2 : tie.Need-returns-2
 returns-2 c =
+    let levels = c .before .before .before .before .before .before .before .before .levels in
+    let descend = c .before .before .before .before .before .before .before .descend in
     let args = c .before .before .before .before .before .before .before .before .before .args in
     let pre = c .before .before .before .before .before .before .before .before .before .pre in
     let shift = first-shift (args .c) (args .start) (args .t2) (pre .0) (pre .3) (pre .2) in
     rw add-one
-    (climbed-dropped (args .c) (c .before .before .before .before .before .before .before .before .levels .result) (args .start) (args .before) (c .before .before .before .before .before .before .before .descend .result) (c .before .before .before .before .before .before .before .before .levels .ensures) (c .before .before .before .before .before .before .before .descend .ensures .0)
+    (climbed-dropped (args .c) (levels .result) (args .start) (args .before) (descend .result) (levels .ensures) (descend .ensures .0)
     (sym (c .before .matches .ensures (args .c .signature .key) shift) ∙ c .if1 .left))
 
 pub climb-spec : {M : Type 1} → statement M

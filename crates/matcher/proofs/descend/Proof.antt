@@ -31,15 +31,20 @@ judged :
     (c : tie.After-matches Inv-loop μ-loop)
     → c .matches .result ≡ matches (c .before .before .before .before .before .before .before .before .before .before .before .before .before .before .args .c) (c .before .before .before .before .before .before .before .before .before .loop .i) (getD (c .before .before .before .before .before .before .before .before .before .loop .w .stages) (c .before .before .before .before .before .before .before .before .before .loop .i - 1) noStage .first)
 judged c =
+    let loop-test = c .before .before .before .before .before .before .before .before .loop-test in
+    let pre = c .before .before .before .before .before .before .before .before .before .before .before .before .before .before .pre in
     let args = c .before .before .before .before .before .before .before .before .before .before .before .before .before .before .args in
     let loop = c .before .before .before .before .before .before .before .before .before .loop in
-    c .matches .ensures (args .c .signature .key) (turn-shift (args .c) (args .k) (loop .i) _ (loop .w) (c .before .before .before .before .before .before .before .before .loop-test .taken) (loop .inv) (ripened (c .before .before .before .before .before)) (args .t3) (c .before .before .before .before .before .before .before .before .before .before .before .before .before .before .pre .2))
+    c .matches .ensures (args .c .signature .key) (turn-shift (args .c) (args .k) (loop .i) _ (loop .w) (loop-test .taken) (loop .inv) (ripened (c .before .before .before .before .before)) (args .t3) (pre .2))
 
 none-requires : tie.Need-none-requires Inv-loop μ-loop
 none-requires c κs = search needs
 
 loop-holds : tie.Need-loop-holds Inv-loop μ-loop
-loop-holds c = turn-begin (c .before .before .before .before .args .c) (record { stages = c .before .before .before .before .args .before; answer = c .none .result }) (c .before .before .before .before .args .k) (c .before .before .before .before .pre .1) (c .before .before .before .before .pre .0) (search (counted-elements, needs)) (c .before .before .before .before .pre .3) (c .none .ensures)
+loop-holds c =
+    let args = c .before .before .before .before .args in
+    let pre = c .before .before .before .before .pre in
+    turn-begin (args .c) (record { stages = args .before; answer = c .none .result }) (args .k) (pre .1) (pre .0) (search (counted-elements, needs)) (pre .3) (c .none .ensures)
 
 sub-i : tie.Need-sub-i Inv-loop μ-loop
 sub-i c = search needs
@@ -58,42 +63,63 @@ is-ripe-requires c κs = omega (arith, c .before .before .loop .inv .most, c .be
 
 take-off-requires : tie.Need-take-off-requires Inv-loop μ-loop
 take-off-requires c κs =
+    let loop-test = c .before .before .before .before .loop-test in
     let args = c .before .before .before .before .before .before .before .before .before .before .args in
     let loop = c .before .before .before .before .before .loop in
-    let small = visited-small (args .c) (args .k) (loop .i) _ (loop .w) (c .before .before .before .before .loop-test .taken) (loop .inv) in (
+    let small = visited-small (args .c) (args .k) (loop .i) _ (loop .w) (loop-test .taken) (loop .inv) in (
       ripe-held (args .c) (loop .i - 1) (getD (loop .w .stages) (loop .i - 1) noStage) (ripened (c .before)),
       λ h. omega (arith, small .second h),
     )
 
 cast-rest : tie.Need-cast-rest Inv-loop μ-loop
-cast-rest c = omega (arith, c .before .before .before .before .before .before .loop .inv .most, c .before .before .before .before .before .before .loop .inv .midway .within)
+cast-rest c =
+    let loop = c .before .before .before .before .before .before .loop in
+    omega (arith, loop .inv .most, loop .inv .midway .within)
 
 mul-rest : tie.Need-mul-rest Inv-loop μ-loop
-mul-rest c = omega (arith, c .before .before .before .before .before .before .loop .inv .most, c .before .before .before .before .before .before .loop .inv .midway .within)
+mul-rest c =
+    let loop = c .before .before .before .before .before .before .loop in
+    omega (arith, loop .inv .most, loop .inv .midway .within)
 
 element-set-from-rest : tie.Need-element-set-from-rest Inv-loop μ-loop
-element-set-from-rest c = omega (arith, c .before .before .before .before .before .before .loop .inv .most, c .before .before .before .before .before .before .loop .inv .midway .within)
+element-set-from-rest c =
+    let loop = c .before .before .before .before .before .before .loop in
+    omega (arith, loop .inv .most, loop .inv .midway .within)
 
 add-w : tie.Need-add-w Inv-loop μ-loop
-add-w c = omega (arith, c .before .before .before .before .before .before .loop .inv .most, c .before .before .before .before .before .before .loop .inv .midway .count)
+add-w c =
+    let loop = c .before .before .before .before .before .before .loop in
+    omega (arith, loop .inv .most, loop .inv .midway .count)
 
 cast-shift : tie.Need-cast-shift Inv-loop μ-loop
-cast-shift c = omega (arith, c .before .before .before .before .before .before .before .loop .inv .most, c .before .before .before .before .before .before .before .loop .inv .midway .within)
+cast-shift c =
+    let loop = c .before .before .before .before .before .before .before .loop in
+    omega (arith, loop .inv .most, loop .inv .midway .within)
 
 mul-shift : tie.Need-mul-shift Inv-loop μ-loop
-mul-shift c = omega (arith, c .before .before .before .before .before .before .before .loop .inv .most, c .before .before .before .before .before .before .before .loop .inv .midway .within)
+mul-shift c =
+    let loop = c .before .before .before .before .before .before .before .loop in
+    omega (arith, loop .inv .most, loop .inv .midway .within)
 
 array-read-shift : tie.Need-array-read-shift Inv-loop μ-loop
-array-read-shift c = omega (arith, c .before .before .before .before .before .before .before .loop .inv .most, c .before .before .before .before .before .before .before .loop .inv .midway .within)
+array-read-shift c =
+    let loop = c .before .before .before .before .before .before .before .loop in
+    omega (arith, loop .inv .most, loop .inv .midway .within)
 
 cast-print : tie.Need-cast-print Inv-loop μ-loop
-cast-print c = omega (arith, c .before .before .before .before .before .before .before .loop .inv .most, c .before .before .before .before .before .before .before .loop .inv .midway .within)
+cast-print c =
+    let loop = c .before .before .before .before .before .before .before .loop in
+    omega (arith, loop .inv .most, loop .inv .midway .within)
 
 mul-print : tie.Need-mul-print Inv-loop μ-loop
-mul-print c = omega (arith, c .before .before .before .before .before .before .before .loop .inv .most, c .before .before .before .before .before .before .before .loop .inv .midway .within)
+mul-print c =
+    let loop = c .before .before .before .before .before .before .before .loop in
+    omega (arith, loop .inv .most, loop .inv .midway .within)
 
 array-copy-out-print : tie.Need-array-copy-out-print Inv-loop μ-loop
-array-copy-out-print c = omega (arith, c .before .before .before .before .before .before .before .loop .inv .most, c .before .before .before .before .before .before .before .loop .inv .midway .within)
+array-copy-out-print c =
+    let loop = c .before .before .before .before .before .before .before .loop in
+    omega (arith, loop .inv .most, loop .inv .midway .within)
 
 matches-requires : tie.Need-matches-requires Inv-loop μ-loop
 matches-requires c κs = search needs
@@ -106,91 +132,173 @@ loop-less c = omega (arith, c .before .before .before .before .before .before .b
 
 loop-again : tie.Need-loop-again Inv-loop μ-loop
 loop-again c =
+    let take-off = c .before .before .before .before .before .before .before .take-off in
+    let loop-test = c .before .before .before .before .before .before .before .before .before .before .before .before .loop-test in
+    let if2 = c .before .before .before .if2 in
+    let if3 = c .before .before .if3 in
     let args = c .before .before .before .before .before .before .before .before .before .before .before .before .before .before .before .before .before .before .args in
     let loop = c .before .before .before .before .before .before .before .before .before .before .before .before .before .loop in
-    rw (c .with-ring .ensures, c .before .before .before .before .before .before .before .take-off .ensures, add-one (loop .w .answer .comparisons))
-    (turn-rung (args .c) (args .k) (loop .i) _ (loop .w) (c .before .before .before .before .before .before .before .before .before .before .before .before .loop-test .taken) (loop .inv) (ripened (c .before .before .before .before .before .before .before .before .before)) (sym (judged (c .before .before .before .before)) ∙ c .before .before .before .if2 .taken) (c .before .before .if3 .taken))
+    rw (c .with-ring .ensures, take-off .ensures, add-one (loop .w .answer .comparisons))
+    (turn-rung (args .c) (args .k) (loop .i) _ (loop .w) (loop-test .taken) (loop .inv) (ripened (c .before .before .before .before .before .before .before .before .before)) (sym (judged (c .before .before .before .before)) ∙ if2 .taken) (if3 .taken))
 
 cast-u : tie.Need-cast-u Inv-loop μ-loop
-cast-u c = omega (arith, c .before .before .before .before .before .before .before .before .before .before .before .loop .inv .most, c .before .before .before .before .before .before .before .before .before .before .before .loop .inv .midway .within)
+cast-u c =
+    let loop = c .before .before .before .before .before .before .before .before .before .before .before .loop in
+    omega (arith, loop .inv .most, loop .inv .midway .within)
 
 mul-u : tie.Need-mul-u Inv-loop μ-loop
-mul-u c = omega (arith, c .before .before .before .before .before .before .before .before .before .before .before .loop .inv .most, c .before .before .before .before .before .before .before .before .before .before .before .loop .inv .midway .within)
+mul-u c =
+    let loop = c .before .before .before .before .before .before .before .before .before .before .before .loop in
+    omega (arith, loop .inv .most, loop .inv .midway .within)
 
 element-copy-out-u : tie.Need-element-copy-out-u Inv-loop μ-loop
-element-copy-out-u c = omega (arith, c .before .before .before .before .before .before .before .before .before .before .before .loop .inv .most, c .before .before .before .before .before .before .before .before .before .before .before .loop .inv .midway .within)
+element-copy-out-u c =
+    let loop = c .before .before .before .before .before .before .before .before .before .before .before .loop in
+    omega (arith, loop .inv .most, loop .inv .midway .within)
 
 enter-requires : tie.Need-enter-requires Inv-loop μ-loop
 enter-requires c κs =
+    let take-off = c .before .before .before .before .before .before .take-off in
+    let loop-test = c .before .before .before .before .before .before .before .before .before .before .before .loop-test in
     let args = c .before .before .before .before .before .before .before .before .before .before .before .before .before .before .before .before .before .args in
     let loop = c .before .before .before .before .before .before .before .before .before .before .before .before .loop in
-    rw (c .before .before .before .before .before .before .take-off .ensures) (room-above (args .c) (args .k) (loop .i) _ (loop .w) (c .before .before .before .before .before .before .before .before .before .before .before .loop-test .taken) (loop .inv) .0)
+    rw (take-off .ensures) (room-above (args .c) (args .k) (loop .i) _ (loop .w) (loop-test .taken) (loop .inv) .0)
 
 cast-stage : tie.Need-cast-stage Inv-loop μ-loop
-cast-stage c = omega (arith, c .before .before .before .before .before .before .before .before .before .before .before .before .before .before .loop .inv .most, c .before .before .before .before .before .before .before .before .before .before .before .before .before .before .loop .inv .midway .within)
+cast-stage c =
+    let loop = c .before .before .before .before .before .before .before .before .before .before .before .before .before .before .loop in
+    omega (arith, loop .inv .most, loop .inv .midway .within)
 
 mul-stage : tie.Need-mul-stage Inv-loop μ-loop
-mul-stage c = omega (arith, c .before .before .before .before .before .before .before .before .before .before .before .before .before .before .loop .inv .most, c .before .before .before .before .before .before .before .before .before .before .before .before .before .before .loop .inv .midway .within)
+mul-stage c =
+    let loop = c .before .before .before .before .before .before .before .before .before .before .before .before .before .before .loop in
+    omega (arith, loop .inv .most, loop .inv .midway .within)
 
 element-set-from-stage : tie.Need-element-set-from-stage Inv-loop μ-loop
-element-set-from-stage c = omega (arith, c .before .before .before .before .before .before .before .before .before .before .before .before .before .before .loop .inv .most, c .before .before .before .before .before .before .before .before .before .before .before .before .before .before .loop .inv .midway .within)
+element-set-from-stage c =
+    let loop = c .before .before .before .before .before .before .before .before .before .before .before .before .before .before .loop in
+    omega (arith, loop .inv .most, loop .inv .midway .within)
 
 enum-told : tie.Need-enum-told Inv-loop μ-loop
 enum-told c = search needs
 
 with-requires : tie.Need-with-requires Inv-loop μ-loop
 with-requires c κs =
+    let loop-test = c .before .before .before .before .before .before .before .before .before .before .before .before .before .before .before .before .loop-test in
     let args = c .before .before .before .before .before .before .before .before .before .before .before .before .before .before .before .before .before .before .before .before .before .before .args in
     let loop = c .before .before .before .before .before .before .before .before .before .before .before .before .before .before .before .before .before .loop in
-    room-above (args .c) (args .k) (loop .i) _ (loop .w) (c .before .before .before .before .before .before .before .before .before .before .before .before .before .before .before .before .loop-test .taken) (loop .inv) .1
+    room-above (args .c) (args .k) (loop .i) _ (loop .w) (loop-test .taken) (loop .inv) .1
 
 loop-less-2 : tie.Need-loop-less-2 Inv-loop μ-loop
-loop-less-2 c = omega (arith, c .before .before .before .before .before .before .before .before .before .before .before .before .before .before .before .before .before .loop-test .taken)
+loop-less-2 c =
+    let loop-test = c .before .before .before .before .before .before .before .before .before .before .before .before .before .before .before .before .before .loop-test in
+    omega (arith, loop-test .taken)
 
 loop-again-2 : tie.Need-loop-again-2 Inv-loop μ-loop
 loop-again-2 c =
+    let enter = c .before .before .before .before .before .enter in
+    let take-off = c .before .before .before .before .before .before .before .before .before .before .before .before .take-off in
+    let loop-test = c .before .before .before .before .before .before .before .before .before .before .before .before .before .before .before .before .before .loop-test in
+    let if2 = c .before .before .before .before .before .before .before .before .if2 in
+    let if3 = c .before .before .before .before .before .before .before .if3 in
     let args = c .before .before .before .before .before .before .before .before .before .before .before .before .before .before .before .before .before .before .before .before .before .before .before .args in
     let loop = c .before .before .before .before .before .before .before .before .before .before .before .before .before .before .before .before .before .before .loop in
-    rw (c .before .before .before .before .before .enter .ensures .0, c .before .before .before .before .before .before .before .before .before .before .before .before .take-off .ensures)
-    (turn-entered (args .c) (args .k) (loop .i) _ (loop .w) (c .before .before .before .before .before .before .before .before .before .before .before .before .before .before .before .before .before .loop-test .taken) (loop .inv) (ripened (c .before .before .before .before .before .before .before .before .before .before .before .before .before .before)) (sym (judged (c .before .before .before .before .before .before .before .before .before)) ∙ c .before .before .before .before .before .before .before .before .if2 .taken) (c .before .before .before .before .before .before .before .if3 .left)
-    (c .before .before .before .before .before .enter .result .aside) _ (rw (← c .before .before .before .before .before .before .before .before .before .before .before .before .take-off .ensures) (c .before .before .before .before .before .enter .ensures .1)) (rw add-one at (c .with .ensures)))
+    rw (enter .ensures .0, take-off .ensures)
+    (turn-entered (args .c) (args .k) (loop .i) _ (loop .w) (loop-test .taken) (loop .inv) (ripened (c .before .before .before .before .before .before .before .before .before .before .before .before .before .before)) (sym (judged (c .before .before .before .before .before .before .before .before .before)) ∙ if2 .taken) (if3 .left)
+    (enter .result .aside) _ (rw (← take-off .ensures) (enter .ensures .1)) (rw add-one at (c .with .ensures)))
 
 enum-told-2 : tie.Need-enum-told-2 Inv-loop μ-loop
 enum-told-2 c = search needs
 
 loop-less-3 : tie.Need-loop-less-3 Inv-loop μ-loop
-loop-less-3 c = omega (arith, c .before .before .before .before .before .before .before .before .before .before .before .before .before .before .before .loop-test .taken)
+loop-less-3 c =
+    let loop-test = c .before .before .before .before .before .before .before .before .before .before .before .before .before .before .before .loop-test in
+    omega (arith, loop-test .taken)
 
 loop-again-3 : tie.Need-loop-again-3 Inv-loop μ-loop
 loop-again-3 c =
+    let enter = c .before .before .before .enter in
+    let take-off = c .before .before .before .before .before .before .before .before .before .before .take-off in
+    let loop-test = c .before .before .before .before .before .before .before .before .before .before .before .before .before .before .before .loop-test in
+    let if2 = c .before .before .before .before .before .before .if2 in
+    let if3 = c .before .before .before .before .before .if3 in
     let args = c .before .before .before .before .before .before .before .before .before .before .before .before .before .before .before .before .before .before .before .before .before .args in
     let loop = c .before .before .before .before .before .before .before .before .before .before .before .before .before .before .before .before .loop in
-    rw (c .before .before .before .enter .ensures .0, c .before .before .before .before .before .before .before .before .before .before .take-off .ensures, add-one (loop .w .answer .comparisons))
-    (turn-entered (args .c) (args .k) (loop .i) _ (loop .w) (c .before .before .before .before .before .before .before .before .before .before .before .before .before .before .before .loop-test .taken) (loop .inv) (ripened (c .before .before .before .before .before .before .before .before .before .before .before .before)) (sym (judged (c .before .before .before .before .before .before .before)) ∙ c .before .before .before .before .before .before .if2 .taken) (c .before .before .before .before .before .if3 .left)
-    (c .before .before .before .enter .result .aside) _ (rw (← c .before .before .before .before .before .before .before .before .before .before .take-off .ensures) (c .before .before .before .enter .ensures .1)) (rw (c .enum-told2 .given .1)))
+    rw (enter .ensures .0, take-off .ensures, add-one (loop .w .answer .comparisons))
+    (turn-entered (args .c) (args .k) (loop .i) _ (loop .w) (loop-test .taken) (loop .inv) (ripened (c .before .before .before .before .before .before .before .before .before .before .before .before)) (sym (judged (c .before .before .before .before .before .before .before)) ∙ if2 .taken) (if3 .left)
+    (enter .result .aside) _ (rw (← take-off .ensures) (enter .ensures .1)) (rw (c .enum-told2 .given .1)))
 
 loop-less-4 : tie.Need-loop-less-4 Inv-loop μ-loop
 loop-less-4 c = omega (arith, c .before .before .before .before .before .before .before .before .before .loop-test .taken)
 
 loop-again-4 : tie.Need-loop-again-4 Inv-loop μ-loop
 loop-again-4 c =
+    let take-off = c .before .before .before .before .take-off in
+    let loop-test = c .before .before .before .before .before .before .before .before .before .loop-test in
     let args = c .before .before .before .before .before .before .before .before .before .before .before .before .before .before .before .args in
     let loop = c .before .before .before .before .before .before .before .before .before .before .loop in
-    rw (c .before .before .before .before .take-off .ensures, add-one) (turn-dropped (args .c) (args .k) (loop .i) _ (loop .w) (c .before .before .before .before .before .before .before .before .before .loop-test .taken) (loop .inv) (ripened (c .before .before .before .before .before .before)) (sym (judged (c .before)) ∙ c .if2 .left))
+    rw (take-off .ensures, add-one) (turn-dropped (args .c) (args .k) (loop .i) _ (loop .w) (loop-test .taken) (loop .inv) (ripened (c .before .before .before .before .before .before)) (sym (judged (c .before)) ∙ c .if2 .left))
 
 loop-less-5 : tie.Need-loop-less-5 Inv-loop μ-loop
 loop-less-5 c = omega (arith, c .before .before .before .loop-test .taken)
 
 loop-again-5 : tie.Need-loop-again-5 Inv-loop μ-loop
 loop-again-5 c =
+    let loop-test = c .before .before .before .loop-test in
     let args = c .before .before .before .before .before .before .before .before .before .args in
     let loop = c .before .before .before .before .loop in
-    turn-unripe (args .c) (args .k) (loop .i) _ (loop .w) (c .before .before .before .loop-test .taken) (loop .inv) (sym (c .before .is-ripe .ensures) ∙ c .if1 .left)
+    turn-unripe (args .c) (args .k) (loop .i) _ (loop .w) (loop-test .taken) (loop .inv) (sym (c .before .is-ripe .ensures) ∙ c .if1 .left)
 
 returns : tie.Need-returns Inv-loop μ-loop
-returns c = turn-end (c .before .before .before .before .before .before .args .c) (c .before .before .before .before .before .before .args .k) (c .before .loop .i) _ (c .before .loop .w) (omega (arith, c .loop-test .left)) (c .before .before .none .ensures) (c .before .loop .inv)
+returns c =
+    let args = c .before .before .before .before .before .before .args in
+    let none = c .before .before .none in
+    turn-end (args .c) (args .k) (c .before .loop .i) _ (c .before .loop .w) (omega (arith, c .loop-test .left)) (none .ensures) (c .before .loop .inv)
 
 pub descend-spec : {M : Type 1} → statement M
 descend-spec =
     tie.close
-    (tie.spec Inv-loop μ-loop none-requires loop-holds sub-i cast-s mul-s element-copy-out-s is-ripe-requires take-off-requires cast-rest mul-rest element-set-from-rest add-w cast-shift mul-shift array-read-shift cast-print mul-print array-copy-out-print matches-requires with-ring-requires loop-less loop-again cast-u mul-u element-copy-out-u enter-requires cast-stage mul-stage element-set-from-stage enum-told with-requires loop-less-2 loop-again-2 enum-told-2 loop-less-3 loop-again-3 loop-less-4 loop-again-4 loop-less-5 loop-again-5 returns)
+    (tie.spec
+    Inv-loop
+    μ-loop
+    none-requires
+    loop-holds
+    sub-i
+    cast-s
+    mul-s
+    element-copy-out-s
+    is-ripe-requires
+    take-off-requires
+    cast-rest
+    mul-rest
+    element-set-from-rest
+    add-w
+    cast-shift
+    mul-shift
+    array-read-shift
+    cast-print
+    mul-print
+    array-copy-out-print
+    matches-requires
+    with-ring-requires
+    loop-less
+    loop-again
+    cast-u
+    mul-u
+    element-copy-out-u
+    enter-requires
+    cast-stage
+    mul-stage
+    element-set-from-stage
+    enum-told
+    with-requires
+    loop-less-2
+    loop-again-2
+    enum-told-2
+    loop-less-3
+    loop-again-3
+    loop-less-4
+    loop-again-4
+    loop-less-5
+    loop-again-5
+    returns)

@@ -40,7 +40,10 @@ loop-less : tie.Need-loop-less Inv-loop μ-loop
 loop-less c = search needs
 
 loop-again : tie.Need-loop-again Inv-loop μ-loop
-loop-again c = (omega arith, c .before .before .before .loop .inv .1, unripe-more (c .before .before .before .loop .i) (c .before .before .before .before .before .args .m) (c .before .before .before .before .before .args .t1) (c .quiet-until .ensures .0) (c .before .before .before .loop .inv .2) (c .quiet-until .ensures .1))
+loop-again c =
+    let loop = c .before .before .before .loop in
+    let args = c .before .before .before .before .before .args in
+    (omega arith, loop .inv .1, unripe-more (loop .i) (args .m) (args .t1) (c .quiet-until .ensures .0) (loop .inv .2) (c .quiet-until .ensures .1))
 
 returns : tie.Need-returns Inv-loop μ-loop
 returns c = λ j l. c .before .loop .inv .2 j (omega arith)

@@ -23,7 +23,10 @@ power-requires : tie.Need-power-requires Inv-loop μ-loop
 power-requires c κs = search needs
 
 loop-holds : tie.Need-loop-holds Inv-loop μ-loop
-loop-holds c = doubling-begin (c .before .before .args .key) (c .before .levels .result) _ _ (omega (arith, c .before .levels .ensures, levels-bound (c .before .before .args .m) (c .before .before .pre))) refl (c .power .ensures)
+loop-holds c =
+    let args = c .before .before .args in
+    let pre = c .before .before .pre in
+    doubling-begin (args .key) (c .before .levels .result) _ _ (omega (arith, c .before .levels .ensures, levels-bound (args .m) (pre))) refl (c .power .ensures)
 
 cast-shifts : tie.Need-cast-shifts Inv-loop μ-loop
 cast-shifts c = omega (arith, c .before .loop .inv .next)
@@ -49,7 +52,10 @@ loop-less : tie.Need-loop-less Inv-loop μ-loop
 loop-less c = omega (arith, c .loop-test .taken)
 
 loop-again : tie.Need-loop-again Inv-loop μ-loop
-loop-again c = rw add-one (doubling-step (c .before .before .before .before .args .key) (c .before .before .before .levels .result) (c .before .loop .i) (c .before .loop .shifts) (c .before .loop .square) (c .before .loop .inv) (c .loop-test .taken))
+loop-again c =
+    let args = c .before .before .before .before .args in
+    let levels = c .before .before .before .levels in
+    rw add-one (doubling-step (args .key) (levels .result) (c .before .loop .i) (c .before .loop .shifts) (c .before .loop .square) (c .before .loop .inv) (c .loop-test .taken))
 
 power-requires-2 : tie.Need-power-requires-2 Inv-loop μ-loop
 power-requires-2 c κs = search needs
@@ -68,9 +74,31 @@ array-write-shifts-2 c = omega (arith, c .before .before .loop .inv .most, c .be
 
 returns : tie.Need-returns Inv-loop μ-loop
 returns c =
-    doubling-end (c .before .before .before .before .before .args .key) (c .before .before .before .before .levels .result) (c .before .before .loop .i) (c .before .before .loop .shifts) (c .before .before .loop .square) (c .before .before .loop .inv) (c .before .before .before .before .before .args .m) (c .power2 .result) (c .before .before .before .before .levels .ensures) (omega (arith, c .before .loop-test .left)) (c .power2 .ensures)
+    let args = c .before .before .before .before .before .args in
+    let levels = c .before .before .before .before .levels in
+    let loop = c .before .before .loop in
+    doubling-end (args .key) (levels .result) (loop .i) (loop .shifts) (loop .square) (loop .inv) (args .m) (c .power2 .result) (levels .ensures) (omega (arith, c .before .loop-test .left)) (c .power2 .ensures)
 
 pub shifts-spec : {M : Type 1} → statement M
 shifts-spec =
     tie.close
-    (tie.spec Inv-loop μ-loop levels-requires power-requires loop-holds cast-shifts cast-shifts-2 mul-shifts array-write-shifts mul-square add-i loop-less loop-again power-requires-2 cast-shifts-3 cast-shifts-4 mul-shifts-2 array-write-shifts-2 returns)
+    (tie.spec
+    Inv-loop
+    μ-loop
+    levels-requires
+    power-requires
+    loop-holds
+    cast-shifts
+    cast-shifts-2
+    mul-shifts
+    array-write-shifts
+    mul-square
+    add-i
+    loop-less
+    loop-again
+    power-requires-2
+    cast-shifts-3
+    cast-shifts-4
+    mul-shifts-2
+    array-write-shifts-2
+    returns)

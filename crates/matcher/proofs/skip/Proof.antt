@@ -23,7 +23,9 @@ reach-requires : tie.Need-reach-requires Inv-loop μ-loop
 reach-requires c κs = search needs
 
 loop-holds : tie.Need-loop-holds Inv-loop μ-loop
-loop-holds c = (omega arith, omega arith, omega arith, ap (λ n. skipped (c .before .before .before .args .key) (c .before .before .before .args .first) n (c .before .before .before .args .start) (drop (c .before .before .before .args .from) (c .before .before .before .args .input .now))) (omega arith))
+loop-holds c =
+    let args = c .before .before .before .args in
+    (omega arith, omega arith, omega arith, ap (λ n. skipped (args .key) (args .first) n (args .start) (drop (args .from) (args .input .now))) (omega arith))
 
 shared-slice-read-byte : tie.Need-shared-slice-read-byte Inv-loop μ-loop
 shared-slice-read-byte c = search needs
@@ -32,7 +34,12 @@ cast-if1 : tie.Need-cast-if1 Inv-loop μ-loop
 cast-if1 c = omega (arith, c .shared-slice-known2 .given (c .before .before .loop .at))
 
 returns : tie.Need-returns Inv-loop μ-loop
-returns c = sym (skipped-stop (c .before .before .before .before .before .before .before .before .args .key) (c .before .before .before .before .before .before .before .before .args .first) (c .before .before .before .before .before .before .before .before .args .input .now) (c .before .before .before .before .loop .mark) (c .before .before .before .before .before .reach .result - c .before .before .before .before .loop .at) (c .before .before .before .before .loop .at) (omega arith) (omega arith) (c .before .before .shared-slice-known2 .given (c .before .before .before .before .loop .at) .fits) (c .if1 .taken)) ∙ c .before .before .before .before .loop .inv .3
+returns c =
+    let args = c .before .before .before .before .before .before .before .before .args in
+    let loop = c .before .before .before .before .loop in
+    let reach = c .before .before .before .before .before .reach in
+    let shared-slice-known2 = c .before .before .shared-slice-known2 in
+    sym (skipped-stop (args .key) (args .first) (args .input .now) (loop .mark) (reach .result - loop .at) (loop .at) (omega arith) (omega arith) (shared-slice-known2 .given (loop .at) .fits) (c .if1 .taken)) ∙ loop .inv .3
 
 push-requires : tie.Need-push-requires Inv-loop μ-loop
 push-requires c κs = search needs
@@ -44,10 +51,18 @@ loop-less : tie.Need-loop-less Inv-loop μ-loop
 loop-less c = search needs
 
 loop-again : tie.Need-loop-again Inv-loop μ-loop
-loop-again c = let less : c .before .before .before .before .before .before .reach .result - (c .before .before .before .before .before .loop .at + 1) ≡ c .before .before .before .before .before .before .reach .result - c .before .before .before .before .before .loop .at - 1 = omega arith in (omega arith, c .before .before .before .before .before .loop .inv .1, omega (arith, ap (λ (a : Mark). a .at) (c .push .ensures)), rw (c .push .ensures, less) (sym (skipped-step (c .before .before .before .before .before .before .before .before .before .args .key) (c .before .before .before .before .before .before .before .before .before .args .first) (c .before .before .before .before .before .before .before .before .before .args .input .now) (c .before .before .before .before .before .loop .mark) (c .before .before .before .before .before .before .reach .result - c .before .before .before .before .before .loop .at) (c .before .before .before .before .before .loop .at) (omega arith) (omega arith) (c .before .before .before .shared-slice-known2 .given (c .before .before .before .before .before .loop .at) .fits) (c .before .if1 .left)) ∙ c .before .before .before .before .before .loop .inv .3))
+loop-again c =
+    let reach = c .before .before .before .before .before .before .reach in
+    let loop = c .before .before .before .before .before .loop in
+    let args = c .before .before .before .before .before .before .before .before .before .args in
+    let shared-slice-known2 = c .before .before .before .shared-slice-known2 in
+    let less : reach .result - (loop .at + 1) ≡ reach .result - loop .at - 1 = omega arith in (omega arith, loop .inv .1, omega (arith, ap (λ (a : Mark). a .at) (c .push .ensures)), rw (c .push .ensures, less) (sym (skipped-step (args .key) (args .first) (args .input .now) (loop .mark) (reach .result - loop .at) (loop .at) (omega arith) (omega arith) (shared-slice-known2 .given (loop .at) .fits) (c .before .if1 .left)) ∙ loop .inv .3))
 
 returns-2 : tie.Need-returns-2 Inv-loop μ-loop
-returns-2 c = sym (skipped-none (c .before .before .before .before .before .args .key) (c .before .before .before .before .before .args .first) (c .before .before .before .before .before .args .input .now) (c .before .loop .mark) (c .before .before .reach .result - c .before .loop .at) (c .before .loop .at) (omega arith)) ∙ c .before .loop .inv .3
+returns-2 c =
+    let args = c .before .before .before .before .before .args in
+    let reach = c .before .before .reach in
+    sym (skipped-none (args .key) (args .first) (args .input .now) (c .before .loop .mark) (reach .result - c .before .loop .at) (c .before .loop .at) (omega arith)) ∙ c .before .loop .inv .3
 
 pub skip-spec : {M : Type 1} → statement M
 skip-spec =

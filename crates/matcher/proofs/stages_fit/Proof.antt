@@ -36,7 +36,10 @@ fits-requires : tie.Need-fits-requires Inv-loop μ-loop
 fits-requires c κs = (omega arith, c .before .before .before .levels .ensures)
 
 returns : tie.Need-returns Inv-loop μ-loop
-returns c = sym (every-fails (fitsAt (c .before .before .before .before .before .before .args .m) (c .before .before .before .before .before .before .args .t) (c .before .before .before .before .before .before .args .t1)) 20 (c .before .before .before .before .loop .i) (omega arith) (sym (c .before .fits2 .ensures) ∙ not-true _ (c .if1 .taken)))
+returns c =
+    let args = c .before .before .before .before .before .before .args in
+    let loop = c .before .before .before .before .loop in
+    sym (every-fails (fitsAt (args .m) (args .t) (args .t1)) 20 (loop .i) (omega arith) (sym (c .before .fits2 .ensures) ∙ not-true _ (c .if1 .taken)))
 
 add-i : tie.Need-add-i Inv-loop μ-loop
 add-i c = search needs
@@ -45,7 +48,10 @@ loop-less : tie.Need-loop-less Inv-loop μ-loop
 loop-less c = search needs
 
 loop-again : tie.Need-loop-again Inv-loop μ-loop
-loop-again c = (omega arith, every-more (fitsAt (c .before .before .before .before .before .before .args .m) (c .before .before .before .before .before .before .args .t) (c .before .before .before .before .before .before .args .t1)) (c .before .before .before .before .loop .i) (c .before .before .before .before .loop .inv .1) (sym (c .before .fits2 .ensures) ∙ not-false _ (c .if1 .left)))
+loop-again c =
+    let args = c .before .before .before .before .before .before .args in
+    let loop = c .before .before .before .before .loop in
+    (omega arith, every-more (fitsAt (args .m) (args .t) (args .t1)) (loop .i) (loop .inv .1) (sym (c .before .fits2 .ensures) ∙ not-false _ (c .if1 .left)))
 
 returns-2 : tie.Need-returns-2 Inv-loop μ-loop
 returns-2 c =

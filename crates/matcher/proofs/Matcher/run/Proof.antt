@@ -25,10 +25,13 @@ passed :
     (c .before .before .before .before .loop .at + c .distance .result)
     (c .before .before .before .before .loop .comparisons + c .distance .result)
 passed c =
+    let args = c .before .before .before .before .before .before .before .before .before .before .before .before .args in
+    let loop = c .before .before .before .before .loop in
+    let quiet-until = c .before .before .quiet-until in
     rw (c .distance .ensures)
-    (run-skip (c .before .before .before .before .before .before .before .before .before .before .before .before .args .self) (c .before .before .before .before .before .before .before .before .before .before .before .before .args .input .now) (c .before .before .before .before .before .before .before .before .before .before .before .before .args .from)
-    (record { signature = c .before .before .before .before .before .before .before .before .before .before .before .before .args .self .signature; now = c .before .before .before .before .loop .now; stages = c .before .before .before .before .loop .stages })
-    (c .before .before .before .before .loop .at) (c .before .before .before .before .loop .comparisons) (c .before .before .before .before .loop .inv) (c .before .before .quiet-until .result) (omega arith) (c .before .before .quiet-until .ensures) (c .before .skip .result) (c .before .skip .ensures))
+    (run-skip (args .self) (args .input .now) (args .from)
+    (record { signature = args .self .signature; now = loop .now; stages = loop .stages })
+    (loop .at) (loop .comparisons) (loop .inv) (quiet-until .result) (omega arith) (quiet-until .ensures) (c .before .skip .result) (c .before .skip .ensures))
 
 -- the card's length is one that a card can have
 shifts-requires : tie.Need-shifts-requires Inv-loop μ-loop
@@ -38,11 +41,15 @@ element-copy-out-first : tie.Need-element-copy-out-first Inv-loop μ-loop
 element-copy-out-first c = search needs
 
 loop-holds : tie.Need-loop-holds Inv-loop μ-loop
-loop-holds c = run-begin (c .before .before .before .before .before .before .before .args .self) (c .before .before .before .before .before .before .before .args .input .now) (c .before .before .before .before .before .before .before .args .from) (c .before .before .before .before .before .before .before .pre .0) (omega arith) (c .before .before .before .before .before .before .before .pre .1)
+loop-holds c =
+    let args = c .before .before .before .before .before .before .before .args in
+    let pre = c .before .before .before .before .before .before .before .pre in
+    run-begin (args .self) (args .input .now) (args .from) (pre .0) (omega arith) (pre .1)
 
 quiet-until-requires : tie.Need-quiet-until-requires Inv-loop μ-loop
 quiet-until-requires c κs =
-    let q = ready (record { signature = c .before .before .before .before .before .before .before .before .before .args .self .signature; now = c .before .loop .now; stages = c .before .loop .stages }) (c .before .loop .inv .fits) in
+    let args = c .before .before .before .before .before .before .before .before .before .args in
+    let q = ready (record { signature = args .self .signature; now = c .before .loop .now; stages = c .before .loop .stages }) (c .before .loop .inv .fits) in
     (q .low, q .high)
 
 skip-requires : tie.Need-skip-requires Inv-loop μ-loop
@@ -68,8 +75,10 @@ silent-requires c κs = search needs
 
 returns : tie.Need-returns Inv-loop μ-loop
 returns c =
+    let args = c .before .before .before .before .before .before .before .before .before .before .before .before .before .before .before .before .args in
+    let if1 = c .before .before .before .if1 in
     rw (c .silent .ensures)
-    (run-spent (c .before .before .before .before .before .before .before .before .before .before .before .before .before .before .before .before .args .self) (c .before .before .before .before .before .before .before .before .before .before .before .before .before .before .before .before .args .input .now) (c .before .before .before .before .before .before .before .before .before .before .before .before .before .before .before .before .args .from) _ _ _ (passed (c .before .before .before .before)) (c .before .before .before .if1 .taken) (c .before .if2 .taken))
+    (run-spent (args .self) (args .input .now) (args .from) _ _ _ (passed (c .before .before .before .before)) (if1 .taken) (c .before .if2 .taken))
 
 shared-slice-read-push : tie.Need-shared-slice-read-push Inv-loop μ-loop
 shared-slice-read-push c = c .before .before .before .if1 .taken
@@ -82,36 +91,52 @@ add-at-2 c = omega (arith, c .before .before .before .before .if1 .taken)
 
 climb-requires : tie.Need-climb-requires Inv-loop μ-loop
 climb-requires c κs =
+    let shifts = c .before .before .before .before .before .before .before .before .before .before .before .before .shifts in
     let q = ready _ (passed (c .before .before .before .before .before) .fits) in
-    rw (c .push .ensures) (q .low, q .high, c .before .before .before .before .before .before .before .before .before .before .before .before .shifts .ensures, refl, q .stages)
+    rw (c .push .ensures) (q .low, q .high, shifts .ensures, refl, q .stages)
 
 cast-comparisons-2 : tie.Need-cast-comparisons-2 Inv-loop μ-loop
 cast-comparisons-2 c = search needs
 
 add-comparisons-2 : tie.Need-add-comparisons-2 Inv-loop μ-loop
 add-comparisons-2 c =
+    let if2 = c .before .before .before .before .before .before .if2 in
+    let climb = c .before .before .before .climb in
+    let push = c .before .before .before .before .push in
+    let args = c .before .before .before .before .before .before .before .before .before .before .before .before .before .before .before .before .before .before .before .before .before .args in
+    let if1 = c .before .before .before .before .before .before .before .before .if1 in
     let q = passed (c .before .before .before .before .before .before .before .before .before) in
-    let fresh = c .before .before .before .before .before .before .if2 .left in
-    rw (c .before .before .before .climb .ensures, c .before .before .before .before .push .ensures)
-    (omega (arith, q .few, fresh, run-count (c .before .before .before .before .before .before .before .before .before .before .before .before .before .before .before .before .before .before .before .before .before .args .self) (c .before .before .before .before .before .before .before .before .before .before .before .before .before .before .before .before .before .before .before .before .before .args .input .now) (c .before .before .before .before .before .before .before .before .before .before .before .before .before .before .before .before .before .before .before .before .before .args .from) _ _ _ q (c .before .before .before .before .before .before .before .before .if1 .taken) fresh))
+    let fresh = if2 .left in
+    rw (climb .ensures, push .ensures)
+    (omega (arith, q .few, fresh, run-count (args .self) (args .input .now) (args .from) _ _ _ q (if1 .taken) fresh))
 
 is-silent-requires : tie.Need-is-silent-requires Inv-loop μ-loop
 is-silent-requires c κs = search needs
 
 returns-2 : tie.Need-returns-2 Inv-loop μ-loop
 returns-2 c =
-    rw (c .before .before .before .before .before .climb .ensures, c .before .before .before .before .before .before .push .ensures)
-    (run-report (c .before .before .before .before .before .before .before .before .before .before .before .before .before .before .before .before .before .before .before .before .before .before .before .args .self) (c .before .before .before .before .before .before .before .before .before .before .before .before .before .before .before .before .before .before .before .before .before .before .before .args .input .now) (c .before .before .before .before .before .before .before .before .before .before .before .before .before .before .before .before .before .before .before .before .before .before .before .args .from) _ _ _ (passed (c .before .before .before .before .before .before .before .before .before .before .before)) (c .before .before .before .before .before .before .before .before .before .before .if1 .taken) (c .before .before .before .before .before .before .before .before .if2 .left)
-    (rw (c .before .before .before .before .before .climb .ensures, c .before .before .before .before .before .before .push .ensures) at (sym (c .before .is-silent .ensures) ∙ not-true _ (c .if3 .taken))))
+    let climb = c .before .before .before .before .before .climb in
+    let push = c .before .before .before .before .before .before .push in
+    let args = c .before .before .before .before .before .before .before .before .before .before .before .before .before .before .before .before .before .before .before .before .before .before .before .args in
+    let if1 = c .before .before .before .before .before .before .before .before .before .before .if1 in
+    let if2 = c .before .before .before .before .before .before .before .before .if2 in
+    rw (climb .ensures, push .ensures)
+    (run-report (args .self) (args .input .now) (args .from) _ _ _ (passed (c .before .before .before .before .before .before .before .before .before .before .before)) (if1 .taken) (if2 .left)
+    (rw (climb .ensures, push .ensures) at (sym (c .before .is-silent .ensures) ∙ not-true _ (c .if3 .taken))))
 
 loop-less : tie.Need-loop-less Inv-loop μ-loop
 loop-less c = omega (arith, c .before .before .before .before .before .before .before .before .before .before .if1 .taken)
 
 loop-again : tie.Need-loop-again Inv-loop μ-loop
 loop-again c =
-    rw (c .before .before .before .before .before .climb .ensures, c .before .before .before .before .before .before .push .ensures)
-    (run-step (c .before .before .before .before .before .before .before .before .before .before .before .before .before .before .before .before .before .before .before .before .before .before .before .args .self) (c .before .before .before .before .before .before .before .before .before .before .before .before .before .before .before .before .before .before .before .before .before .before .before .args .input .now) (c .before .before .before .before .before .before .before .before .before .before .before .before .before .before .before .before .before .before .before .before .before .before .before .args .from) _ _ _ (passed (c .before .before .before .before .before .before .before .before .before .before .before)) (c .before .before .before .before .before .before .before .before .before .before .if1 .taken) (c .before .before .before .before .before .before .before .before .if2 .left)
-    (rw (c .before .before .before .before .before .climb .ensures, c .before .before .before .before .before .before .push .ensures) at (sym (c .before .is-silent .ensures) ∙ not-false _ (c .if3 .left))))
+    let climb = c .before .before .before .before .before .climb in
+    let push = c .before .before .before .before .before .before .push in
+    let args = c .before .before .before .before .before .before .before .before .before .before .before .before .before .before .before .before .before .before .before .before .before .before .before .args in
+    let if1 = c .before .before .before .before .before .before .before .before .before .before .if1 in
+    let if2 = c .before .before .before .before .before .before .before .before .if2 in
+    rw (climb .ensures, push .ensures)
+    (run-step (args .self) (args .input .now) (args .from) _ _ _ (passed (c .before .before .before .before .before .before .before .before .before .before .before)) (if1 .taken) (if2 .left)
+    (rw (climb .ensures, push .ensures) at (sym (c .before .is-silent .ensures) ∙ not-false _ (c .if3 .left))))
 
 loop-less-2 : tie.Need-loop-less-2 Inv-loop μ-loop
 loop-less-2 c = omega (arith, c .if1 .left, c .before .before .before .before .loop-test .taken)
@@ -123,7 +148,10 @@ silent-requires-2 : tie.Need-silent-requires-2 Inv-loop μ-loop
 silent-requires-2 c κs = search needs
 
 returns-3 : tie.Need-returns-3 Inv-loop μ-loop
-returns-3 c = rw (c .silent2 .ensures) (run-end (c .before .before .before .before .before .before .before .before .before .before .args .self) (c .before .before .before .before .before .before .before .before .before .before .args .input .now) (c .before .before .before .before .before .before .before .before .before .before .args .from) _ _ _ (c .before .before .loop .inv) (c .before .loop-test .left))
+returns-3 c =
+    let args = c .before .before .before .before .before .before .before .before .before .before .args in
+    let loop = c .before .before .loop in
+    rw (c .silent2 .ensures) (run-end (args .self) (args .input .now) (args .from) _ _ _ (loop .inv) (c .before .loop-test .left))
 
 pub run-spec : {M : Type 1} → statement M
 run-spec =

@@ -11,7 +11,9 @@ silent-requires : tie.Need-silent-requires
 silent-requires c κs = search needs
 
 returns : tie.Need-returns
-returns c = rw (c .silent .ensures) (parts (scan-none (c .before .before .before .args .self) (c .before .before .before .args .input .now) (c .before .before .before .args .from) (c .before .if1 .taken)))
+returns c =
+    let args = c .before .before .before .args in
+    rw (c .silent .ensures) (parts (scan-none (args .self) (args .input .now) (args .from) (c .before .if1 .taken)))
 
 fits-requires : tie.Need-fits-requires
 fits-requires c κs = search needs
@@ -20,7 +22,11 @@ silent-requires-2 : tie.Need-silent-requires-2
 silent-requires-2 c κs = search needs
 
 returns-2 : tie.Need-returns-2
-returns-2 c = rw (c .silent2 .ensures) (parts (scan-misfit (c .before .before .before .before .before .args .self) (c .before .before .before .before .before .args .input .now) (c .before .before .before .before .before .args .from) (c .before .before .before .if1 .left) (sym (c .before .before .fits2 .ensures) ∙ not-true _ (c .before .if2 .taken))))
+returns-2 c =
+    let args = c .before .before .before .before .before .args in
+    let if1 = c .before .before .before .if1 in
+    let fits2 = c .before .before .fits2 in
+    rw (c .silent2 .ensures) (parts (scan-misfit (args .self) (args .input .now) (args .from) (if1 .left) (sym (fits2 .ensures) ∙ not-true _ (c .before .if2 .taken))))
 
 run-requires : tie.Need-run-requires
 run-requires c κs = (sym (c .before .fits2 .ensures) ∙ not-false _ (c .if2 .left), omega arith)

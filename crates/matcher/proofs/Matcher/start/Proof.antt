@@ -17,7 +17,10 @@ blank-requires c κs = search needs
 
 returns : tie.Need-returns
 unfolding fresh
-returns c = rw (← c .before .before .before .fits2 .ensures, not-true (c .before .before .before .fits2 .result) (c .before .before .if1 .taken)) (refl, rw (c .before .none .ensures) at (c .blank .ensures))
+returns c =
+    let fits2 = c .before .before .before .fits2 in
+    let if1 = c .before .before .if1 in
+    rw (← fits2 .ensures, not-true (fits2 .result) (if1 .taken)) (refl, rw (c .before .none .ensures) at (c .blank .ensures))
 
 blank-requires-2 : tie.Need-blank-requires-2
 blank-requires-2 c κs = search needs

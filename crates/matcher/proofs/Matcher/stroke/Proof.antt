@@ -22,32 +22,43 @@ none-requires-2 c κs = search needs
 
 returns-2 : tie.Need-returns-2
 unfolding strokeAnswer afterStroke
-returns-2 c = rw (← c .before .before .before .before .before .fits2 .ensures, not-false (c .before .before .before .before .before .fits2 .result) (c .before .before .before .before .if1 .left), le-ltb _ _ (c .before .if2 .taken)) (refl, (c .none2 .ensures, refl))
+returns-2 c =
+    let fits2 = c .before .before .before .before .before .fits2 in
+    let if1 = c .before .before .before .before .if1 in
+    rw (← fits2 .ensures, not-false (fits2 .result) (if1 .left), le-ltb _ _ (c .before .if2 .taken)) (refl, (c .none2 .ensures, refl))
 
 push-requires : tie.Need-push-requires
 push-requires c κs = search needs
 
 shifts-requires : tie.Need-shifts-requires
 shifts-requires c κs =
+    let args = c .before .before .before .before .before .before .before .before .args in
+    let if1 = c .before .before .before .before .before .before .if1 in
     let fits2 = c .before .before .before .before .before .before .before .fits2 in
-    ready (c .before .before .before .before .before .before .before .before .args .self) (sym (fits2 .ensures) ∙ not-false (fits2 .result) (c .before .before .before .before .before .before .if1 .left)) .high
+    ready (args .self) (sym (fits2 .ensures) ∙ not-false (fits2 .result) (if1 .left)) .high
 
 climb-requires : tie.Need-climb-requires
 climb-requires c κs =
+    let args = c .before .before .before .before .before .before .before .before .before .args in
+    let if1 = c .before .before .before .before .before .before .before .if1 in
     let fits2 = c .before .before .before .before .before .before .before .before .fits2 in
-    let q = ready (c .before .before .before .before .before .before .before .before .before .args .self) (sym (fits2 .ensures) ∙ not-false (fits2 .result) (c .before .before .before .before .before .before .before .if1 .left)) in
+    let q = ready (args .self) (sym (fits2 .ensures) ∙ not-false (fits2 .result) (if1 .left)) in
     rw (c .before .push .ensures) (q .low, q .high, c .shifts .ensures, refl, q .stages)
 
 returns-3 : tie.Need-returns-3
 unfolding strokeAnswer afterStroke
 returns-3 c =
+    let if1 = c .before .before .before .before .before .before .before .before .before .before .if1 in
+    let if2 = c .before .before .before .before .before .before .before .if2 in
+    let climb = c .before .before .climb in
+    let push = c .before .before .before .before .push in
     let fits2 = c .before .before .before .before .before .before .before .before .before .before .before .fits2 in
     rw (
       ← fits2 .ensures,
-      not-false (fits2 .result) (c .before .before .before .before .before .before .before .before .before .before .if1 .left),
-      lt-ltb _ _ (c .before .before .before .before .before .before .before .if2 .left),
-      c .before .before .climb .ensures,
-      c .before .before .before .before .push .ensures,
+      not-false (fits2 .result) (if1 .left),
+      lt-ltb _ _ (if2 .left),
+      climb .ensures,
+      push .ensures,
     )
     (refl, (refl, refl))
 

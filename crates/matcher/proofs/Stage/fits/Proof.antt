@@ -21,14 +21,22 @@ one-fits-requires c κs = search needs
 
 returns-3 : tie.Need-returns-3
 unfolding stageFits
-returns-3 c = rw (ne-eqb _ _ (c .before .before .before .before .if1 .left), ← c .before .before .before .before .before .before .pre .1, lt-ltb _ _ (c .before .before .before .if2 .left), eq-eqb _ _ (c .before .if3 .taken)) (c .one-fits .ensures)
+returns-3 c =
+    let if1 = c .before .before .before .before .if1 in
+    let pre = c .before .before .before .before .before .before .pre in
+    let if2 = c .before .before .before .if2 in
+    rw (ne-eqb _ _ (if1 .left), ← pre .1, lt-ltb _ _ (if2 .left), eq-eqb _ _ (c .before .if3 .taken)) (c .one-fits .ensures)
 
 many-fit-requires : tie.Need-many-fit-requires
 many-fit-requires c κs = search needs
 
 returns-4 : tie.Need-returns-4
 unfolding stageFits
-returns-4 c = rw (ne-eqb _ _ (c .before .before .before .before .if1 .left), ← c .before .before .before .before .before .before .pre .1, lt-ltb _ _ (c .before .before .before .if2 .left), ne-eqb _ _ (c .before .if3 .left)) (c .many-fit .ensures)
+returns-4 c =
+    let if1 = c .before .before .before .before .if1 in
+    let pre = c .before .before .before .before .before .before .pre in
+    let if2 = c .before .before .before .if2 in
+    rw (ne-eqb _ _ (if1 .left), ← pre .1, lt-ltb _ _ (if2 .left), ne-eqb _ _ (c .before .if3 .left)) (c .many-fit .ensures)
 
 pub fits-spec : {M : Type 1} → statement M
 fits-spec =

@@ -20,18 +20,33 @@ age-fits-requires c κs = search needs
 
 returns-2 : tie.Need-returns-2
 unfolding manyFit
-returns-2 c = rw (← c .before .before .before .prints-fit .ensures, not-false (c .before .before .before .prints-fit .result) (c .before .before .if1 .left), ← c .before .age-fits .ensures, not-true (c .before .age-fits .result) (c .if2 .taken))
+returns-2 c =
+    let prints-fit = c .before .before .before .prints-fit in
+    let if1 = c .before .before .if1 in
+    rw (← prints-fit .ensures, not-false (prints-fit .result) (if1 .left), ← c .before .age-fits .ensures, not-true (c .before .age-fits .result) (c .if2 .taken))
 
 age-fits-requires-2 : tie.Need-age-fits-requires-2
 age-fits-requires-2 c κs = search needs
 
 returns-3 : tie.Need-returns-3
 unfolding manyFit
-returns-3 c = rw (← c .before .before .before .before .before .prints-fit .ensures, not-false (c .before .before .before .before .before .prints-fit .result) (c .before .before .before .before .if1 .left), ← c .before .before .before .age-fits .ensures, not-false (c .before .before .before .age-fits .result) (c .before .before .if2 .left), ← c .before .age-fits2 .ensures, not-true (c .before .age-fits2 .result) (c .if3 .taken))
+returns-3 c =
+    let prints-fit = c .before .before .before .before .before .prints-fit in
+    let if1 = c .before .before .before .before .if1 in
+    let age-fits = c .before .before .before .age-fits in
+    let if2 = c .before .before .if2 in
+    rw (← prints-fit .ensures, not-false (prints-fit .result) (if1 .left), ← age-fits .ensures, not-false (age-fits .result) (if2 .left), ← c .before .age-fits2 .ensures, not-true (c .before .age-fits2 .result) (c .if3 .taken))
 
 returns-4 : tie.Need-returns-4
 unfolding manyFit
-returns-4 c = rw (← c .before .before .before .before .before .before .before .prints-fit .ensures, not-false (c .before .before .before .before .before .before .before .prints-fit .result) (c .before .before .before .before .before .before .if1 .left), ← c .before .before .before .before .before .age-fits .ensures, not-false (c .before .before .before .before .before .age-fits .result) (c .before .before .before .before .if2 .left), ← c .before .before .before .age-fits2 .ensures, not-false (c .before .before .before .age-fits2 .result) (c .before .before .if3 .left), eq-eqb _ _ (c .if4 .taken))
+returns-4 c =
+    let prints-fit = c .before .before .before .before .before .before .before .prints-fit in
+    let if1 = c .before .before .before .before .before .before .if1 in
+    let age-fits = c .before .before .before .before .before .age-fits in
+    let if2 = c .before .before .before .before .if2 in
+    let age-fits2 = c .before .before .before .age-fits2 in
+    let if3 = c .before .before .if3 in
+    rw (← prints-fit .ensures, not-false (prints-fit .result) (if1 .left), ← age-fits .ensures, not-false (age-fits .result) (if2 .left), ← age-fits2 .ensures, not-false (age-fits2 .result) (if3 .left), eq-eqb _ _ (c .if4 .taken))
 
 sub-reach : tie.Need-sub-reach
 sub-reach c = search needs
@@ -44,7 +59,8 @@ cast-reach-2 c = search needs
 
 mul-reach : tie.Need-mul-reach
 mul-reach c =
-    let s = c .before .before .before .before .before .before .before .before .before .before .args .self in
+    let args = c .before .before .before .before .before .before .before .before .before .before .args in
+    let s = args .self in
     omega (arith, product-at-most {a = s .held - 1} {b = s .step .length} 4294967294 4294967295 (omega arith) (omega arith))
 
 cast-result : tie.Need-cast-result
@@ -55,12 +71,21 @@ cast-result-2 c = search needs
 
 add-result : tie.Need-add-result
 add-result c =
-    let s = c .before .before .before .before .before .before .before .before .before .before .before .before .args .self in
+    let args = c .before .before .before .before .before .before .before .before .before .before .before .before .args in
+    let s = args .self in
     omega (arith, product-at-most {a = s .held - 1} {b = s .step .length} 4294967294 4294967295 (omega arith) (omega arith))
 
 returns-5 : tie.Need-returns-5
 unfolding manyFit
-returns-5 c = rw (← c .before .before .before .before .before .before .before .before .before .before .before .prints-fit .ensures, not-false (c .before .before .before .before .before .before .before .before .before .before .before .prints-fit .result) (c .before .before .before .before .before .before .before .before .before .before .if1 .left), ← c .before .before .before .before .before .before .before .before .before .age-fits .ensures, not-false (c .before .before .before .before .before .before .before .before .before .age-fits .result) (c .before .before .before .before .before .before .before .before .if2 .left), ← c .before .before .before .before .before .before .before .age-fits2 .ensures, not-false (c .before .before .before .before .before .before .before .age-fits2 .result) (c .before .before .before .before .before .before .if3 .left), ne-eqb _ _ (c .before .before .before .before .if4 .left))
+returns-5 c =
+    let prints-fit = c .before .before .before .before .before .before .before .before .before .before .before .prints-fit in
+    let if1 = c .before .before .before .before .before .before .before .before .before .before .if1 in
+    let age-fits = c .before .before .before .before .before .before .before .before .before .age-fits in
+    let if2 = c .before .before .before .before .before .before .before .before .if2 in
+    let age-fits2 = c .before .before .before .before .before .before .before .age-fits2 in
+    let if3 = c .before .before .before .before .before .before .if3 in
+    let if4 = c .before .before .before .before .if4 in
+    rw (← prints-fit .ensures, not-false (prints-fit .result) (if1 .left), ← age-fits .ensures, not-false (age-fits .result) (if2 .left), ← age-fits2 .ensures, not-false (age-fits2 .result) (if3 .left), ne-eqb _ _ (if4 .left))
 
 pub many-fit-spec : {M : Type 1} → statement M
 many-fit-spec =

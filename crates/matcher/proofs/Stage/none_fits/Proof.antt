@@ -20,7 +20,11 @@ equals-requires-2 c κs = search needs
 
 returns-2 : tie.Need-returns-2
 unfolding noneFits
-returns-2 c = rw (← (rw (c .before .before .before .before .origin .ensures) at (c .before .before .before .equals .ensures)), not-false (c .before .before .before .equals .result) (c .before .before .if1 .left), ← (rw (c .before .before .before .before .origin .ensures) at (c .before .equals2 .ensures)), not-true (c .before .equals2 .result) (c .if2 .taken))
+returns-2 c =
+    let origin = c .before .before .before .before .origin in
+    let equals = c .before .before .before .equals in
+    let if1 = c .before .before .if1 in
+    rw (← (rw (origin .ensures) at (equals .ensures)), not-false (equals .result) (if1 .left), ← (rw (origin .ensures) at (c .before .equals2 .ensures)), not-true (c .before .equals2 .result) (c .if2 .taken))
 
 none-requires : tie.Need-none-requires
 none-requires c κs = search needs
@@ -30,7 +34,13 @@ equals-requires-3 c κs = search needs
 
 returns-3 : tie.Need-returns-3
 unfolding noneFits
-returns-3 c = rw (← (rw (c .before .before .before .before .before .before .origin .ensures) at (c .before .before .before .before .before .equals .ensures)), not-false (c .before .before .before .before .before .equals .result) (c .before .before .before .before .if1 .left), ← (rw (c .before .before .before .before .before .before .origin .ensures) at (c .before .before .before .equals2 .ensures)), not-false (c .before .before .before .equals2 .result) (c .before .before .if2 .left)) (rw (c .before .none .ensures) at (c .equals3 .ensures))
+returns-3 c =
+    let origin = c .before .before .before .before .before .before .origin in
+    let equals = c .before .before .before .before .before .equals in
+    let if1 = c .before .before .before .before .if1 in
+    let equals2 = c .before .before .before .equals2 in
+    let if2 = c .before .before .if2 in
+    rw (← (rw (origin .ensures) at (equals .ensures)), not-false (equals .result) (if1 .left), ← (rw (origin .ensures) at (equals2 .ensures)), not-false (equals2 .result) (if2 .left)) (rw (c .before .none .ensures) at (c .equals3 .ensures))
 
 pub none-fits-spec : {M : Type 1} → statement M
 none-fits-spec =

@@ -14,13 +14,20 @@ fits-requires-2 : tie.Need-fits-requires-2
 fits-requires-2 c κs = search needs
 
 returns-2 : tie.Need-returns-2
-returns-2 c = rw (← c .before .before .before .fits2 .ensures, not-false (c .before .before .before .fits2 .result) (c .before .before .if1 .left), ← c .before .fits3 .ensures, not-true (c .before .fits3 .result) (c .if2 .taken))
+returns-2 c =
+    let fits2 = c .before .before .before .fits2 in
+    let if1 = c .before .before .if1 in
+    rw (← fits2 .ensures, not-false (fits2 .result) (if1 .left), ← c .before .fits3 .ensures, not-true (c .before .fits3 .result) (c .if2 .taken))
 
 fits-requires-3 : tie.Need-fits-requires-3
 fits-requires-3 c κs = search needs
 
 returns-3 : tie.Need-returns-3
-returns-3 c = rw (← c .before .before .before .before .fits2 .ensures, not-false (c .before .before .before .before .fits2 .result) (c .before .before .before .if1 .left), ← c .before .before .fits3 .ensures, not-false (c .before .before .fits3 .result) (c .before .if2 .left)) (c .fits4 .ensures)
+returns-3 c =
+    let fits2 = c .before .before .before .before .fits2 in
+    let if1 = c .before .before .before .if1 in
+    let fits3 = c .before .before .fits3 in
+    rw (← fits2 .ensures, not-false (fits2 .result) (if1 .left), ← fits3 .ensures, not-false (fits3 .result) (c .before .if2 .left)) (c .fits4 .ensures)
 
 pub prints-fit-spec : {M : Type 1} → statement M
 prints-fit-spec =

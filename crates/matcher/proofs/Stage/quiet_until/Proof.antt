@@ -29,13 +29,21 @@ returns-2 : tie.Need-returns-2
 returns-2 c = omega (arith, rw add-one at (c .before .before .prefix-length .ensures))
 
 sub-result : tie.Need-sub-result
-sub-result c = omega (arith, c .before .before .prefix-length .ensures, length-positive (c .before .before .before .before .before .args .m) (c .before .before .before .before .before .args .i + 1) (c .before .before .before .before .before .pre .1))
+sub-result c =
+    let prefix-length = c .before .before .prefix-length in
+    let args = c .before .before .before .before .before .args in
+    let pre = c .before .before .before .before .before .pre in
+    omega (arith, prefix-length .ensures, length-positive (args .m) (args .i + 1) (pre .1))
 
 cast-result : tie.Need-cast-result
 cast-result c = search needs
 
 returns-3 : tie.Need-returns-3
-returns-3 c = omega (arith, rw add-one at (c .before .before .prefix-length .ensures), length-positive (c .before .before .before .before .before .args .m) (c .before .before .before .before .before .args .i + 1) (c .before .before .before .before .before .pre .1))
+returns-3 c =
+    let prefix-length = c .before .before .prefix-length in
+    let args = c .before .before .before .before .before .args in
+    let pre = c .before .before .before .before .before .pre in
+    omega (arith, rw add-one at (prefix-length .ensures), length-positive (args .m) (args .i + 1) (pre .1))
 
 pub quiet-until-spec : {M : Type 1} → statement M
 quiet-until-spec =

@@ -21,14 +21,21 @@ alone-requires c κs = search needs
 
 returns-2 : tie.Need-returns-2
 unfolding takenOff
-returns-2 c = rw (ne-eqb _ _ (c .before .before .before .before .before .if1 .left), eq-eqb _ _ (c .before .if2 .taken)) (rw (c .before .before .before .forward .ensures) at (c .alone .ensures))
+returns-2 c =
+    let if1 = c .before .before .before .before .before .if1 in
+    let forward = c .before .before .before .forward in
+    rw (ne-eqb _ _ (if1 .left), eq-eqb _ _ (c .before .if2 .taken)) (rw (forward .ensures) at (c .alone .ensures))
 
 sub-t7 : tie.Need-sub-t7
 sub-t7 c = search needs
 
 returns-3 : tie.Need-returns-3
 unfolding takenOff
-returns-3 c = rw (ne-eqb _ _ (c .before .before .before .before .before .before .if1 .left), ne-eqb _ _ (c .before .before .if2 .left), c .before .before .before .before .forward .ensures)
+returns-3 c =
+    let if1 = c .before .before .before .before .before .before .if1 in
+    let if2 = c .before .before .if2 in
+    let forward = c .before .before .before .before .forward in
+    rw (ne-eqb _ _ (if1 .left), ne-eqb _ _ (if2 .left), forward .ensures)
 
 pub take-off-spec : {M : Type 1} → statement M
 take-off-spec =
