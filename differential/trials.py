@@ -2,10 +2,12 @@
 """What the trial programs must write, worked out without them.
 
 The generator of patterns and streams is replayed; answers come from the ladder
-with unlimited lists (reference.py), occurrences from a search over the bytes.
+with unlimited lists (reference.py), occurrences from a search over the bytes,
+refusals from document 01's conditions (refusals.py).
 
     trials.py runs > crates/trials_runs/stdout
     trials.py cuts > crates/trials_cuts/stdout
+    trials.py refusals > crates/trials_refusals/stdout
 """
 
 import copy
@@ -15,6 +17,7 @@ sys.dont_write_bytecode = True
 
 from card import make_card, number, write_card
 from reference import Ladder
+from refusals import refusals
 
 
 # ---- The generator -----------------------------------------------------------
@@ -407,4 +410,4 @@ def cuts():
 
 
 if __name__ == "__main__":
-    {"runs": runs, "cuts": cuts}[sys.argv[1]]()
+    {"runs": runs, "cuts": cuts, "refusals": refusals}[sys.argv[1]]()

@@ -1,0 +1,592 @@
+"""Refusals, by the sentences of document 01: what every call says of a value or a
+record; and the cases that the trial program of refusals tries.
+
+A value is a dict from the words of document 01 to numbers: "length", "key" and
+"print 0" to "print 20" of a card; besides them "taken" and "running print" of a
+half-made card; "t", "F_t" and "stage 0 held" to "stage 19 step print" of a watch.
+A case names the numbers that are replaced.
+"""
+
+from card import (CARD_KIND, KIND, LARGEST_KEY, LONGEST_PASSAGE, MISFIT, P, SHORT,
+                  SMALLEST_KEY, SPENT, field, fingerprint, make_card, number,
+                  tested_lengths, write_card)
+from reference import LAST_T, Ladder, listing
+
+EMPTY, OVERLONG, KEY, UNFINISHED, SURPLUS, NO_SPACE, OTHER = 1, 2, 3, 4, 5, 7, 11
+WATCH_KIND = 2
+PRINTS, STAGES = 21, 20
+# "per stage: held, first, F_first, last, F_last, step, step print."
+FIELDS = ["held", "first", "F_first", "last", "F_last", "step", "step print"]
+
+
+def print_name(i):
+    return "print %d" % i
+
+
+def stage_name(i, name):
+    return "stage %d %s" % (i, name)
+
+
+# ---- Misfits -----------------------------------------------------------------
+
+def limits_misfit(value):
+    # "m or r outside limits"
+    return (not 1 <= value["length"] <= LONGEST_PASSAGE
+            or not SMALLEST_KEY <= value["key"] <= LARGEST_KEY)
+
+
+def prints_of(value):
+    return [value[print_name(i)] for i in range(PRINTS)]
+
+
+def prints_misfit(value):
+    # "a fingerprint not below p; a first fingerprint over 255"; "a print past P_k
+    # [...] that isn't all 0"
+    prints = prints_of(value)
+    past = prints[len(tested_lengths(value["length"])):]
+    return any(f >= P for f in prints) or prints[0] > 255 or any(past)
+
+
+def card_misfits(value):
+    return limits_misfit(value) or prints_misfit(value)
+
+
+def half_misfits(value):
+    # "A half-made card misfits when it has more than m bytes or its prints are not
+    # below p, or a print not yet reached is not 0, or its running print is not 0 at
+    # 0 bytes." Besides, "the same holds for values handed in".
+    if card_misfits(value) or value["taken"] > value["length"]:
+        return True
+    if value["running print"] >= P or value["taken"] == 0 and value["running print"] != 0:
+        return True
+    lengths = tested_lengths(value["length"])
+    return any(value[print_name(i)] != 0
+               for i, length in enumerate(lengths) if value["taken"] < length)
+
+
+def stage_misfits(stage, t, youngest, oldest):
+    """A stage of which a listed start is from `youngest` to `oldest` bytes back."""
+    held, first, f_first, last, f_last, step, step_print = stage
+    # "Held 0: the other six are 0."
+    if held == 0:
+        return any(stage)
+    if max(f_first, f_last, step_print) >= P:
+        return True
+    # "Held 1: last = first, F_last = F_first, step and step print 0."
+    if held == 1 and (last != first or f_last != f_first or step or step_print):
+        return True
+    # "held of 2 or more with step 0 or last not first + (held-1) × step"
+    if held > 1 and (step == 0 or last != first + (held - 1) * step):
+        return True
+    # "a listed first or last with t - start outside |P_i| .. |P_(i+1)| - 1"
+    return not all(youngest <= t - start <= oldest for start in (first, last))
+
+
+def watch_misfits(value):
+    if card_misfits(value) or value["F_t"] >= P:
+        return True
+    t, lengths = value["t"], tested_lengths(value["length"])
+    if t == 0 and value["F_t"] != 0:            # "F_t not 0 at t = 0"
+        return True
+    for i in range(STAGES):
+        stage = [value[stage_name(i, name)] for name in FIELDS]
+        if i >= len(lengths) - 1:
+            if any(stage):                      # "a stage past k-1 that isn't all 0"
+                return True
+        elif stage_misfits(stage, t, lengths[i], lengths[i + 1] - 1):
+            return True
+    return False
+
+
+# ---- Calls -------------------------------------------------------------------
+# "Order: value handed in (10), then 1, 2, 3; 5; 4; 6; 7. Reading: 8, length under 2
+# (10), 9, length too small (10), 11, other 10."
+
+def first_of(*judgements):
+    """The number of the first judgement that holds, 0 for none."""
+    return next((refusal for holds, refusal in judgements if holds), 0)
+
+
+def begin(m, key):
+    return first_of((m == 0, EMPTY), (m > LONGEST_PASSAGE, OVERLONG),
+                    (not SMALLEST_KEY <= key <= LARGEST_KEY, KEY))
+
+
+def push(half):
+    return first_of((half_misfits(half), MISFIT), (half["taken"] >= half["length"], SURPLUS))
+
+
+def finish(half):
+    return first_of((half_misfits(half), MISFIT), (half["taken"] < half["length"], UNFINISHED))
+
+
+def start(card):
+    return first_of((card_misfits(card), MISFIT))
+
+
+def card_size(card):
+    return 14 + 4 * len(tested_lengths(card["length"]))
+
+
+def write(card, space):
+    return MISFIT if card_misfits(card) else first_of((space < card_size(card), NO_SPACE))
+
+
+def stroke(watch):
+    return first_of((watch_misfits(watch), MISFIT), (watch["t"] == LAST_T, SPENT))
+
+
+def watch_size(watch):
+    return 26 + 28 * (len(tested_lengths(watch["length"])) - 1)
+
+
+def park(watch, space):
+    return MISFIT if watch_misfits(watch) else first_of((space < watch_size(watch), NO_SPACE))
+
+
+def head(buffer, kind, least):
+    """The refusal of a record's head."""
+    if len(buffer) < 4 or len(buffer) < field(buffer, 0) + 4:
+        return SHORT
+    length = field(buffer, 0)
+    return first_of((length < 2, MISFIT), (int.from_bytes(buffer[4:6], "little") != kind, KIND),
+                    (length < least, MISFIT))
+
+
+def read(buffer):
+    """A card's record."""
+    refusal = head(buffer, CARD_KIND, 10)
+    if refusal:
+        return refusal
+    card = {"length": field(buffer, 6), "key": field(buffer, 10)}
+    if limits_misfit(card) or field(buffer, 0) + 4 != card_size(card):
+        return MISFIT
+    count = len(tested_lengths(card["length"]))
+    for i in range(PRINTS):
+        card[print_name(i)] = field(buffer, 14 + 4 * i) if i < count else 0
+    return MISFIT if card_misfits(card) else 0
+
+
+def resume(card, buffer):
+    """A parked watch's record, under a card."""
+    if card_misfits(card):
+        return MISFIT
+    refusal = head(buffer, WATCH_KIND, 22)
+    if refusal:
+        return refusal
+    # "m, r or last fingerprint differs from the card"
+    k = len(tested_lengths(card["length"])) - 1
+    own = [card["length"], card["key"], card[print_name(k)]]
+    if [field(buffer, at) for at in (6, 10, 14)] != own:
+        return OTHER
+    if field(buffer, 0) + 4 != watch_size(card):
+        return MISFIT
+    watch = dict(card, **{"t": field(buffer, 18), "F_t": field(buffer, 22)})
+    for i in range(STAGES):
+        for j, name in enumerate(FIELDS):
+            watch[stage_name(i, name)] = field(buffer, 26 + 28 * i + 4 * j) if i < k else 0
+    return MISFIT if watch_misfits(watch) else 0
+
+
+# ---- Values ------------------------------------------------------------------
+
+def plain_card(m):
+    """So many ones under key 2; else an invented card of the longest passage."""
+    if m > 64:
+        return make_card(b"", 2)._replace(m=LONGEST_PASSAGE, key=5, prints=[1] * PRINTS)
+    return make_card(bytes([1]) * m, 2)
+
+
+def card_of(m):
+    card = plain_card(m)
+    value = {"length": card.m, "key": card.key}
+    for i in range(PRINTS):
+        value[print_name(i)] = card.prints[i] if i < len(card.prints) else 0
+    return value
+
+
+def half_made(m, taken):
+    """So many bytes of 100 under key 7."""
+    value = {"length": m, "key": 7, "taken": taken,
+             "running print": fingerprint(bytes([100]) * taken, 7)}
+    lengths = tested_lengths(m)
+    for i in range(PRINTS):
+        reached = i < len(lengths) and lengths[i] <= taken
+        value[print_name(i)] = fingerprint(bytes([100]) * lengths[i], 7) if reached else 0
+    return value
+
+
+def stored(ladder):
+    """What a watch stores of the ladder with unlimited lists."""
+    value = dict(card_of(ladder.card.m), **{"t": ladder.t, "F_t": ladder.F[-1]})
+    for i in range(STAGES):
+        stage = list(ladder.stages[i]) if i < ladder.k else []
+        fields = [0] * 7
+        if stage:
+            step = stage[1] - stage[0] if len(stage) > 1 else 0
+            fields = [len(stage), stage[0], ladder.F[stage[0]], stage[-1], ladder.F[stage[-1]],
+                      step, ladder.print_of(stage[0], step) if step else 0]
+        for name, what in zip(FIELDS, fields):
+            value[stage_name(i, name)] = what
+    return value
+
+
+def watch_of(m, taken):
+    """The watch after so many ones."""
+    ladder = Ladder(plain_card(m))
+    for _ in range(taken):
+        ladder.take(1)
+    return stored(ladder)
+
+
+def record_of(watch):
+    k = len(tested_lengths(watch["length"])) - 1
+    fields = [watch["length"], watch["key"], watch[print_name(k)], watch["t"], watch["F_t"]]
+    fields += [watch[stage_name(i, name)] for i in range(k) for name in FIELDS]
+    body = number(WATCH_KIND, 2) + b"".join(number(one) for one in fields)
+    return number(len(body)) + body
+
+
+# ---- Lines -------------------------------------------------------------------
+
+FILLER, ROOM, BEHIND, NARROW, SHORTEST = 170, 600, 9, 25, 3
+
+
+class Lines:
+    """Printed lines, and all verdicts in them."""
+
+    def __init__(self):
+        self.met = []
+
+    def say(self, words, *numbers):
+        self.met += numbers
+        print(words + ":" + "".join(" %d" % one for one in numbers))
+
+    def counts(self, words, numbers, digest=False):
+        self.met += numbers
+        print(words + ":" + count_words(numbers)
+              + (", digest %d" % digest_of(numbers) if digest else ""))
+
+
+def count_words(numbers):
+    words = " accepted %d" % numbers.count(0)
+    for refusal in range(1, 12):
+        if refusal in numbers:
+            words += ", refused %d with %d" % (numbers.count(refusal), refusal)
+    return words
+
+
+def digest_of(numbers):
+    digest = 0
+    for one in numbers:
+        digest = (digest * 65599 + one) % 4294967291
+    return digest
+
+
+def change_words(changes):
+    return "".join(", %s is %d" % change for change in changes)
+
+
+def in_room(record):
+    return record + bytes([FILLER]) * (ROOM - len(record))
+
+
+def strikes(watch):
+    """A stroke of the core, of the thin entry, and of many in one call."""
+    return [stroke(watch)] * 3
+
+
+def parkings(watch):
+    """Into a buffer, behind used bytes, and into too few."""
+    return [park(watch, ROOM), park(watch, ROOM - BEHIND), park(watch, NARROW)]
+
+
+# ---- The maker ---------------------------------------------------------------
+
+BEGINNINGS = [(0, 2), (0, 1), (1, 2), (1, 1), (1048575, 2), (1048576, 2), (1048576, 0),
+              (1048577, 2), (1048577, 0), (4294967295, 0), (5, 0), (5, 1), (5, 2), (5, 3),
+              (5, P - 2), (5, P - 1), (5, P), (5, P + 1), (5, 4294967295)]
+
+HALVES = [
+    (1, 0), (1, 1), (5, 0), (5, 4), (5, 5), (1048576, 0, ("taken", 1048575)),
+    (1048576, 0, ("taken", 1048576)), (1048576, 0, ("taken", 1048577)),
+    (5, 0, ("length", 0)), (5, 0, ("length", 1048576)), (5, 0, ("length", 1048577)),
+    (5, 3, ("key", 0)), (5, 3, ("key", 1)), (5, 3, ("key", 2)), (5, 3, ("key", P - 1)),
+    (5, 3, ("key", P)), (5, 5, ("key", 1)), (5, 5, ("key", P - 1)), (5, 3, ("length", 2)),
+    (5, 3, ("length", 3)), (5, 3, ("length", 4)), (5, 5, ("taken", 6)),
+    (5, 5, ("taken", 4294967295)), (5, 3, ("running print", P - 1)),
+    (5, 3, ("running print", P)), (5, 3, ("print 0", 255)), (5, 3, ("print 0", 256)),
+    (5, 3, ("print 1", P - 1)), (5, 3, ("print 1", P)), (5, 5, ("print 3", P - 1)),
+    (5, 5, ("print 3", P)), (5, 0, ("running print", 1)), (5, 1, ("running print", 0)),
+    (5, 0, ("print 0", 1)), (5, 3, ("print 2", 1)), (5, 4, ("print 2", 1)),
+    (5, 4, ("print 3", 1)), (5, 5, ("print 4", 1)), (5, 5, ("print 20", 1)),
+    (5, 3, ("taken", 2)), (5, 3, ("taken", 1)),
+]
+
+
+def maker(lines):
+    for m, key in BEGINNINGS:
+        lines.say("begin, length %d, key %d" % (m, key), begin(m, key))
+    for m, taken, *changes in HALVES:
+        half = dict(half_made(m, taken), **dict(changes))
+        lines.say("half-made card for %d after %d%s" % (m, taken, change_words(changes)),
+                  push(half), finish(half))
+
+
+# ---- Cards -------------------------------------------------------------------
+
+CARDS = [
+    (5,), (5, ("length", 0)), (5, ("length", 4)), (5, ("length", 8)), (1048576,),
+    (1048576, ("length", 524288)), (1048576, ("length", 524289)),
+    (1048576, ("length", 1048577)), (1048576, ("length", 4294967295)), (5, ("key", 0)),
+    (5, ("key", 1)), (5, ("key", 2)), (5, ("key", P - 2)), (5, ("key", P - 1)), (5, ("key", P)),
+    (5, ("key", 4294967295)), (1, ("print 0", 255)), (1, ("print 0", 256)),
+    (5, ("print 0", 255)), (5, ("print 0", 256)), (5, ("print 1", P - 1)), (5, ("print 1", P)),
+    (5, ("print 3", P - 1)), (5, ("print 3", P)), (1048576, ("print 20", P - 1)),
+    (1048576, ("print 20", P)), (1, ("print 1", 1)), (1, ("print 20", 1)), (5, ("print 4", 1)),
+    (5, ("print 20", 1)),
+]
+
+
+def cards(lines):
+    for m, *changes in CARDS:
+        card = dict(card_of(m), **dict(changes))
+        lines.say("card of %d%s" % (m, change_words(changes)), start(card), write(card, ROOM),
+                  write(card, SHORTEST), resume(card, b"abc"))
+
+
+# ---- Watches -----------------------------------------------------------------
+
+# Sixteen ones, of which six were taken: stage 0 lists 5, stage 1 lists 3 and 4, stage 2
+# lists 0, 1 and 2, stage 3 none.
+WATCHES = [
+    (), (("t", 0),), (("t", 5),), (("t", 7),), (("t", 4294967295),), (("F_t", 0),),
+    (("F_t", P - 1),), (("F_t", P),), (("F_t", 4294967295),),
+    *[(("stage 3 " + name, 1),) for name in FIELDS],
+    (("stage 0 held", 0),), (("stage 0 held", 2),), (("stage 0 first", 4),),
+    (("stage 0 F_first", 0),), (("stage 0 last", 4),), (("stage 0 F_last", 0),),
+    (("stage 0 step", 1),), (("stage 0 step print", 1),),
+    (("stage 0 F_first", P - 1), ("stage 0 F_last", P - 1)),
+    (("stage 0 F_first", P), ("stage 0 F_last", P)),
+    (("stage 2 held", 0),), (("stage 2 held", 1),), (("stage 2 held", 2),),
+    (("stage 2 held", 4),), (("stage 2 first", 1),), (("stage 2 last", 1),),
+    (("stage 2 step", 0),), (("stage 2 step", 2),),
+    (("stage 2 held", 2), ("stage 2 step", 2)), (("stage 2 held", 2), ("stage 2 last", 1)),
+    (("stage 2 F_first", P - 1),), (("stage 2 F_first", P),), (("stage 2 F_last", P - 1),),
+    (("stage 2 F_last", P),), (("stage 2 step print", P - 1),), (("stage 2 step print", P),),
+    (("stage 2 held", 4), ("stage 2 last", 3)), (("stage 1 held", 3), ("stage 1 first", 2)),
+    (("stage 1 last", 3), ("stage 1 step", 0)),
+    (("stage 2 held", 2147483650), ("stage 2 step", 2)),
+    (("stage 1 held", 2863311532), ("stage 1 step", 3)),
+    (("stage 1 held", 4294967295), ("stage 1 step", 4294967295)),
+]
+FRESH = [(), (("F_t", 1),), (("t", 1),), (("t", 1), ("F_t", 1)), (("stage 0 held", 1),)]
+PAST = [*[(16, "stage 4 " + name) for name in FIELDS], (16, "stage 19 held"),
+        (16, "stage 19 step print"), (1, "stage 0 held"), (1, "stage 19 F_last")]
+WATCH_CARDS = [("length", 0), ("length", 8), ("length", 9), ("length", 17),
+               ("length", 1048577), ("key", 1), ("key", P - 1), ("key", P), ("print 0", 256),
+               ("print 4", P), ("print 5", 1)]
+# Length, stage, t, first, last.
+AGES = [
+    (16, 3, 100, 84, 84), (16, 3, 100, 85, 85), (16, 3, 100, 92, 92), (16, 3, 100, 93, 93),
+    (16, 3, 100, 100, 100), (16, 3, 100, 101, 101), (16, 3, 100, 4294967295, 4294967295),
+    (5, 2, 100, 95, 95), (5, 2, 100, 96, 96), (5, 2, 100, 97, 97), (5, 0, 100, 98, 98),
+    (5, 0, 100, 99, 99), (5, 0, 100, 100, 100), (1, 0, 100, 99, 99), (16, 3, 100, 84, 92),
+    (16, 3, 100, 85, 92), (16, 3, 100, 85, 93), (16, 3, 100, 0, 92),
+    (16, 3, 100, 85, 4294967295),
+    (1048576, 19, 2000000, 951424, 951424), (1048576, 19, 2000000, 951425, 951425),
+    (1048576, 19, 2000000, 951425, 1475712), (1048576, 19, 2000000, 1475712, 1475712),
+    (1048576, 19, 2000000, 1475713, 1475713),
+    (1048576, 19, 4294967294, 4293918718, 4293918718),
+    (1048576, 19, 4294967294, 4293918719, 4294443006),
+    (1048576, 19, 4294967294, 4294443007, 4294443007),
+]
+
+
+def watch_case(lines, m, taken, changes):
+    """A watch with numbers replaced, as a value and in its record."""
+    watch = dict(watch_of(m, taken), **dict(changes))
+    lines.say("watch of %d at %d%s" % (m, taken, change_words(changes)), *strikes(watch),
+              *parkings(watch), resume(card_of(m), in_room(record_of(watch))))
+
+
+def age_case(lines, m, i, t, first, last):
+    watch = dict(watch_of(m, 0), **{"t": t, "F_t": 12345})
+    held = 1 if first == last else 2
+    for name, what in zip(FIELDS, [held, first, 12345, last, 12345, last - first, 0]):
+        watch[stage_name(i, name)] = what
+    lines.say("watch of %d at %d, stage %d lists %d to %d" % (m, t, i, first, last),
+              *strikes(watch), *parkings(watch))
+
+
+def watches(lines):
+    for changes in WATCHES:
+        watch_case(lines, 16, 6, changes)
+    for changes in FRESH:
+        watch_case(lines, 16, 0, changes)
+    for m, name in PAST:
+        watch = dict(watch_of(m, 6), **{name: 1})
+        lines.say("watch of %d at 6, %s is 1" % (m, name), *strikes(watch), *parkings(watch))
+    for change in WATCH_CARDS:
+        watch = dict(watch_of(16, 6), **dict([change]))
+        lines.say("watch of 16 at 6, its card%s" % change_words([change]), *strikes(watch),
+                  *parkings(watch))
+    for case in AGES:
+        age_case(lines, *case)
+
+
+# ---- Records -----------------------------------------------------------------
+
+# Length, kind, how many bytes; a byte, the number there.
+CARD_RECORDS = [
+    (26, 1, 0, 6, 5), (26, 1, 3, 6, 5), (26, 1, 4, 6, 5), (26, 1, 29, 6, 5), (26, 1, 30, 6, 5),
+    (26, 1, 31, 6, 5), (0, 1, 3, 6, 5), (26, 2, 29, 6, 0), (4294967295, 2, 600, 6, 5),
+    (4294967292, 1, 600, 6, 5),
+    (0, 1, 4, 6, 5), (0, 2, 600, 6, 5), (1, 2, 5, 6, 5), (2, 2, 6, 6, 5), (2, 1, 6, 6, 5),
+    (9, 2, 13, 6, 5), (9, 1, 13, 6, 5), (10, 1, 14, 6, 5), (10, 2, 14, 6, 5),
+    (26, 0, 600, 6, 5), (26, 2, 600, 6, 5), (26, 257, 600, 6, 5), (26, 256, 600, 6, 5),
+    (26, 2, 600, 6, 0), (27, 2, 600, 6, 5),
+    (14, 1, 600, 6, 5), (22, 1, 600, 6, 5), (25, 1, 600, 6, 5), (27, 1, 600, 6, 5),
+    (30, 1, 600, 6, 5), (26, 1, 600, 6, 4), (26, 1, 600, 6, 9),
+    (26, 1, 600, 6, 0), (26, 1, 600, 6, 1048577), (26, 1, 600, 6, 4294967295),
+    (26, 1, 600, 10, 1), (26, 1, 600, 10, P - 1), (26, 1, 600, 10, P), (26, 1, 600, 14, 255),
+    (26, 1, 600, 14, 256), (26, 1, 600, 26, P - 1), (26, 1, 600, 26, P),
+]
+WATCH_RECORDS = [
+    (106, 2, 0, 6, 5), (106, 2, 3, 6, 5), (106, 2, 109, 6, 5), (106, 2, 110, 6, 5),
+    (106, 2, 111, 6, 5), (106, 1, 109, 6, 6), (4294967295, 1, 600, 6, 5),
+    (4294967292, 2, 600, 6, 6),
+    (0, 2, 4, 6, 5), (1, 1, 600, 6, 6), (2, 1, 600, 6, 6), (2, 2, 6, 6, 5), (21, 1, 600, 6, 6),
+    (21, 2, 25, 6, 6), (22, 2, 26, 6, 6), (22, 2, 26, 6, 5), (106, 1, 600, 6, 6),
+    (106, 258, 600, 6, 5),
+    (78, 2, 600, 6, 5), (105, 2, 600, 6, 5), (107, 2, 600, 6, 5), (134, 2, 600, 6, 5),
+    (134, 2, 600, 6, 9), (107, 2, 600, 10, 3),
+    (106, 2, 600, 6, 6), (106, 2, 600, 6, 0), (106, 2, 600, 6, 1048577), (106, 2, 600, 10, 3),
+    (106, 2, 600, 10, 0), (106, 2, 600, 14, 30), (106, 2, 600, 14, 4294967295),
+]
+MISFIT_RECORDS = [(2, 7), (2, P), (3, P), (3, 7)]
+
+
+def replaced(record, at, new):
+    return record[:at] + new + record[at + len(new):]
+
+
+def record_case(lines, kind_word, record, judge, length, kind, n, at, what):
+    buffer = replaced(in_room(record), 0, number(length) + number(kind, 2))
+    buffer = replaced(buffer, at, number(what))
+    lines.say("%s record, length %d, kind %d, bytes %d, at %d is %d"
+              % (kind_word, length, kind, n, at, what), judge(buffer[:n]))
+
+
+def every_front(lines, words, record, judge):
+    buffer = in_room(record)
+    lines.counts(words + ", every front",
+                 [judge(buffer[:n]) for n in range(len(record) + 4)], True)
+
+
+def every_byte(lines, words, record, judge):
+    buffer, numbers = in_room(record), []
+    for i, was in enumerate(record):
+        for more in range(1, 256):
+            numbers.append(judge(replaced(buffer, i, bytes([(was + more) % 256]))))
+    lines.counts(words + ", every byte replaced", numbers, True)
+
+
+def sweeps(lines, words, record, judge):
+    every_front(lines, words, record, judge)
+    every_byte(lines, words, record, judge)
+
+
+def card_records(lines):
+    record = write_card(plain_card(5))
+    for case in CARD_RECORDS:
+        record_case(lines, "card", record, read, *case)
+    for m in (1, 5, 1048576):
+        sweeps(lines, "card record of %d" % m, write_card(plain_card(m)), read)
+
+
+def watch_records(lines):
+    card, record = card_of(5), record_of(watch_of(5, 3))
+    for case in WATCH_RECORDS:
+        record_case(lines, "watch", record, lambda buffer: resume(card, buffer), *case)
+    for key, f in MISFIT_RECORDS:
+        buffer = replaced(replaced(in_room(record), 10, number(key)), 22, number(f))
+        lines.say("watch record, key %d, F_t %d" % (key, f), resume(card, buffer))
+    for m, taken in ((1, 0), (1, 6), (5, 3), (16, 6), (64, 50)):
+        sweeps(lines, "watch record of %d at %d" % (m, taken), record_of(watch_of(m, taken)),
+               lambda buffer, card=card_of(m): resume(card, buffer))
+
+
+# ---- Ends --------------------------------------------------------------------
+
+EDGES = [(0, 0), (25, 0), (26, 0), (27, 0), (51, 26), (52, 26), (26, 26), (26, 27),
+         (26, 4294967295)]
+
+
+def spaces(lines):
+    watch = watch_of(1, 6)
+    for n, used in EDGES:
+        lines.say("watch of 1 in %d bytes, used %d" % (n, used), park(watch, max(n - used, 0)))
+    for m in (1, 5, 1048576):
+        size = len(write_card(plain_card(m)))
+        lines.counts("card of %d in every space" % m,
+                     [write(card_of(m), n) for n in range(size + 4)])
+    for m, used in ((1, 0), (1, 31), (5, 0), (1048576, 0)):
+        watch = watch_of(m, 6)
+        spaces_there = range(used + len(record_of(watch)) + 4)
+        lines.counts("watch of %d at 6 in every space, used %d" % (m, used),
+                     [park(watch, max(n - used, 0)) for n in spaces_there])
+
+
+class Late:
+    """The running fingerprints from a late t on."""
+
+    def __init__(self, t, f):
+        self.t, self.prints = t, {t: f}
+
+    def __getitem__(self, x):
+        return self.prints[self.t if x == -1 else x]
+
+    def append(self, f):
+        self.t += 1
+        self.prints[self.t] = f
+
+
+LAST_BYTES = [(1, 4294967294), (1, 4294967295), (2, 4294967293), (3, 4294967292),
+              (16, 4294967270), (16, 4294967295), (1048576, 4294967294), (1048576, 4294967295)]
+
+
+def last_bytes(lines, m, t):
+    ladder = Ladder(plain_card(m))
+    ladder.t, ladder.F = t, Late(t, 12345)
+    watch = stored(ladder)
+    lines.say("late watch of %d at %d" % (m, t), resume(card_of(m), in_room(record_of(watch))))
+    while not stroke(watch):
+        lines.met += [0, 0]
+        rung, sets, comparisons = ladder.take(1)
+        assert not sets
+        print("byte at %d: 0 0%s, comparisons %d"
+              % (watch["t"], "" if rung is None else ", rings %d" % rung, comparisons))
+        watch = stored(ladder)
+    lines.say("byte at %d" % watch["t"], *strikes(watch))
+    lines.say("parked at %d" % watch["t"], *parkings(watch))
+
+
+def short_streams():
+    """Case L, and M10 as stream under the passage of M9."""
+    case_l = bytes.fromhex("1A 00 00 00 01 00 08 00 00 00 02 00 00 00 01 00 00 00"
+                           "03 00 00 00 0F 00 00 00 FF 00 00 00")
+    print("case L\n" + listing(case_l + bytes([1, 1, 1, 1, 1, 0, 3])).decode(), end="")
+    m9 = write_card(make_card(bytes([1, 1, 1, 0]), 2))
+    print("M9 and M10\n" + listing(m9 + bytes([1, 1, 0, 2])).decode(), end="")
+
+
+def refusals():
+    lines = Lines()
+    for part in (maker, cards, watches, card_records, watch_records, spaces):
+        part(lines)
+    for m, t in LAST_BYTES:
+        last_bytes(lines, m, t)
+    short_streams()
+    print("all calls:" + count_words(lines.met))
+    print("failures 0")
