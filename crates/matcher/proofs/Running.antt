@@ -138,17 +138,15 @@ module _ (self : Matcher) (input : List ℕ) (from : ℕ) where
                   (scanned-by refl refl (omega arith) (omega (arith, q .begun)) refl);
             }
 
-    -- bytes are passed over
-    pub run-skip :
-        (until : ℕ) → until ≤ maxTaken → Unripe (levels (w .signature .length)) (w .signature .length) until (w .stages)
-        → (r : Mark) → r ≡ skipped (w .signature .key) (first w) (min (until - w .now .at) (length input - at)) (w .now) (drop at input)
+    -- bytes were passed over
+    run-passed :
+        (until n : ℕ) (r : Mark)
+        → until ≤ maxTaken
+        → n ≤ until - w .now .at
+        → n ≤ length input - at
+        → (s : Skips w n (drop at input) r)
         → Running self input from (moved w r) (at + (r .at - w .now .at)) (comparisons + (r .at - w .now .at))
-    run-skip until low unripe r e =
-        let n : ℕ = min (until - w .now .at) (length input - at) in
-        let s : Skips w n (drop at input) r = rw e (elim (decLt (w .now .at) until) [
-          | yes l ↦ skips n (drop at input) w (q .fits) (omega arith) (sooner (levels (w .signature .length)) (w .signature .length) (w .stages) (omega arith) unripe)
-          | no l ↦ rw (skipped-none (w .signature .key) (first w) input (w .now) n at (omega arith)) (no-skips w n (drop at input) (q .fits))
-        ]) in
+    run-passed until n r low soon inside s =
         let taken : r .at - w .now .at ≡ s .taken = omega (arith, s .moves) in
         rw taken
         (record {
@@ -162,6 +160,19 @@ module _ (self : Matcher) (input : List ℕ) (from : ℕ) where
               ∙ ap (ahead comparisons (at - from)) (s .same)
               ∙ rw drop-drop (scanned-by refl refl (omega arith) (omega (arith, q .begun)) refl);
         })
+
+    pub run-skip :
+        (until : ℕ) → until ≤ maxTaken → Unripe (levels (w .signature .length)) (w .signature .length) until (w .stages)
+        → (r : Mark) → r ≡ skipped (w .signature .key) (first w) (min (until - w .now .at) (length input - at)) (w .now) (drop at input)
+        → Running self input from (moved w r) (at + (r .at - w .now .at)) (comparisons + (r .at - w .now .at))
+    run-skip until low unripe r e =
+        let n : ℕ = min (until - w .now .at) (length input - at) in
+        run-passed until n r low (omega arith) (omega arith)
+        (rw e
+        (elim (decLt (w .now .at) until) [
+          | yes l ↦ skips n (drop at input) w (q .fits) (omega arith) (sooner (levels (w .signature .length)) (w .signature .length) (w .stages) (omega arith) unripe)
+          | no l ↦ rw (skipped-none (w .signature .key) (first w) input (w .now) n at (omega arith)) (no-skips w n (drop at input) (q .fits))
+        ]))
 
 module _ (self : Matcher) (input : List ℕ) (from : ℕ) where
   -- no byte is left
