@@ -4,6 +4,7 @@ pub mod Ceiling
 pub mod Keeps
 pub mod Sound
 pub mod StrokeFits
+pub mod FreshFits
 pub mod Quiet
 pub mod Running
 pub mod Doubling

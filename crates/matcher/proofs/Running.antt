@@ -21,7 +21,7 @@ use Rattle.matcher.specs.declared.Answer.{Answer}
 use Rattle.matcher.specs.declared.Scan.{Scan}
 use Rattle.matcher.specs.Matcher.{maxTaken, matcherFits}
 use Rattle.matcher.specs.Stroke.{noAnswer, nextMark, walked, strokeRefusal, strokeAnswer, afterStroke}
-use Rattle.matcher.specs.Scan.{Scanned, silent, scanned}
+use Rattle.matcher.specs.Scan.{Scanned, silent, scanned, scanOf}
 use Rattle.matcher.specs.Skip.{skipped, Unripe, silentEnd, Ends}
 use Rattle.matcher.proofs.Sound.{sound, after-taken}
 use Rattle.matcher.proofs.StrokeFits.{stroke-fits}
@@ -182,15 +182,16 @@ module _ (self : Matcher) (input : List ℕ) (from : ℕ) where
       rw (drop-of-length-le input l)
       (record { matcher = refl; answer = refl; comparisons = refl; next = omega arith; verdict = refl })
 
-  -- the watch misfits
-  pub scan-misfit :
-      from < length input
-      → matcherFits self ≡ false
-      → Ends from (scanned self (drop from input)) (silentEnd self 0 from (Refused Misfit))
-  unfolding scanned
-  scan-misfit l e =
-      rw (drop-cons input from 0 l, e)
-      (record { matcher = refl; answer = refl; comparisons = refl; next = omega arith; verdict = refl })
+-- What a call comes to, where the watch is no misfit and where it is one.
+module _ (self : Matcher) (input : List ℕ) (from : ℕ) (r : Scan) where
+  pub scan-fits : matcherFits self ≡ true → Ends from (scanned self (drop from input)) r → Ends from (scanOf self (drop from input)) r
+  unfolding scanOf
+  scan-fits e q = rw e q
+
+  pub scan-misfit : matcherFits self ≡ false → r ≡ silentEnd self 0 from (Refused Misfit) → Ends from (scanOf self (drop from input)) r
+  unfolding scanOf
+  scan-misfit e q =
+      rw (e, q) (record { matcher = refl; answer = refl; comparisons = refl; next = omega arith; verdict = refl })
 
 -- the parts of a contract by name
 pub parts :

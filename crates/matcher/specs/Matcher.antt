@@ -95,5 +95,9 @@ freshRefusal s = cond (signatureFits s) 0 10
 abbrev pub blank : Signature → Matcher
 blank s = record { signature = s; now = origin; stages = replicate stageCount noStage }
 
+-- what stands beside a refusal: the watch that holds nothing
+abbrev pub noMatcher : Matcher
+noMatcher = blank noSignature
+
 unfoldable pub fresh : Signature → Matcher
-fresh s = cond (eqb (freshRefusal s) 0) (blank s) (blank noSignature)
+fresh s = cond (eqb (freshRefusal s) 0) (blank s) noMatcher

@@ -7,6 +7,7 @@ use Rattle.matcher.specs.declared.Matcher.{Matcher}
 use Rattle.matcher.specs.declared.Ring.{Ring}
 use Rattle.matcher.specs.declared.Ring.the-variants.{Silent, At}
 use Rattle.matcher.specs.declared.Answer.{Answer}
+use Rattle.matcher.specs.Matcher.{matcherFits}
 use Rattle.matcher.specs.Stroke.{noAnswer, strokeRefusal, strokeAnswer, afterStroke}
 
 -- Whether an answer has no ring and no set.
@@ -50,3 +51,9 @@ scanned w (byte ∷ bytes) =
       refusal = 0;
     }))
     (record { matcher = w; answer = noAnswer; comparisons = 0; taken = 0; refusal = strokeRefusal w })
+
+-- What a call comes to: "value handed in (10)" first, whatever bytes there are, and then the run.
+unfoldable pub scanOf : Matcher → List ℕ → Scanned
+scanOf w bytes =
+    cond (matcherFits w) (scanned w bytes)
+    (record { matcher = w; answer = noAnswer; comparisons = 0; taken = 0; refusal = 10 })

@@ -9,9 +9,9 @@ ghost use Rattle.fingerprint.specs.Fingerprint.{p, same};
 ghost use Rattle.ladder.specs.Prefix.{levels, prefixLength};
 ghost use Rattle.refusal.specs.Number.{number};
 ghost use Rattle.signature.specs.Signature.{signatureFits};
-ghost use Rattle.matcher.specs.Matcher.{origin, noGap, noStage, sameMark, sameGap, ageFits, noneFits, oneFits, manyFit, stagePrintsFit, stageFits, stagesFit, matcherFits, freshRefusal, fresh, blank};
+ghost use Rattle.matcher.specs.Matcher.{origin, noGap, noStage, sameMark, sameGap, ageFits, noneFits, oneFits, manyFit, stagePrintsFit, stageFits, stagesFit, matcherFits, freshRefusal, fresh, blank, noMatcher};
 ghost use Rattle.matcher.specs.Stroke.{gapTo, forward, alone, takenOff, entered, asideOf, noProgression, noAnswer, ringing, withAside, ripeAt, promotedUnder, descended, walkedFrom, nextMark, walked, strokeRefusal, strokeAnswer, afterStroke};
-ghost use Rattle.matcher.specs.Scan.{silent, scanned};
+ghost use Rattle.matcher.specs.Scan.{silent, scanned, scanOf};
 ghost use Rattle.matcher.specs.Skip.{Shifts, skipped, Unripe, silentEnd, Ends};
 use fingerprint::Fingerprint;
 use fingerprint::Key;
@@ -716,8 +716,8 @@ impl Matcher {
         stages_fit(stages, signature.length, now.at)
     }
 
-    // A watch that has taken no byte.
-    pub fn blank(signature: Signature) -> Matcher
+    // A watch that has taken no byte, of a card that no one judged.
+    fn blank(signature: Signature) -> Matcher
         ensures { λ w. ⌜ w ≡ blank signature ⌝ }
     {
         let nothing = Stage::none();
@@ -728,6 +728,13 @@ impl Matcher {
         }
     }
 
+    // The watch that holds nothing, which stands beside a refusal: every call refuses it with 10.
+    pub fn none() -> Matcher
+        ensures { λ w. ⌜ w ≡ noMatcher ⌝ }
+    {
+        Matcher::blank(Signature::none())
+    }
+
     // A fresh watch of a card. Refusal: 10 misfit.
     pub fn start(signature: Signature) -> Started
         ensures verdict { λ r. ⌜ number (r .verdict) ≡ freshRefusal signature ⌝ }
@@ -736,7 +743,7 @@ impl Matcher {
         if !signature.fits() {
             return Started {
                 verdict: Verdict::Refused(Refusal::Misfit),
-                matcher: Matcher::blank(Signature::none()),
+                matcher: Matcher::none(),
             };
         }
         Started {
@@ -846,17 +853,17 @@ impl Matcher {
     // Takes the bytes from a place of the input on, until one has something to report, none is left or one is refused. Refusals: 10 misfit,
     // 6 spent. Bytes at which no start is ripe and which are not P_0 cost little more than the running fingerprint.
     pub fn scan(self, input: &[u8], from: usize) -> Scan
-        ensures matcher { λ r. ⌜ r .matcher ≡ scanned self (drop from (now (input .entry))) .matcher ⌝ }
-        ensures answer { λ r. ⌜ r .answer ≡ scanned self (drop from (now (input .entry))) .answer ⌝ }
-        ensures comparisons { λ r. ⌜ r .comparisons ≡ scanned self (drop from (now (input .entry))) .comparisons ⌝ }
-        ensures next { λ r. ⌜ r .next ≡ from + scanned self (drop from (now (input .entry))) .taken ⌝ }
-        ensures verdict { λ r. ⌜ number (r .verdict) ≡ scanned self (drop from (now (input .entry))) .refusal ⌝ }
+        ensures matcher { λ r. ⌜ r .matcher ≡ scanOf self (drop from (now (input .entry))) .matcher ⌝ }
+        ensures answer { λ r. ⌜ r .answer ≡ scanOf self (drop from (now (input .entry))) .answer ⌝ }
+        ensures comparisons { λ r. ⌜ r .comparisons ≡ scanOf self (drop from (now (input .entry))) .comparisons ⌝ }
+        ensures next { λ r. ⌜ r .next ≡ from + scanOf self (drop from (now (input .entry))) .taken ⌝ }
+        ensures verdict { λ r. ⌜ number (r .verdict) ≡ scanOf self (drop from (now (input .entry))) .refusal ⌝ }
     {
-        if input.len() <= from {
-            return Scan::silent(self, 0, from, Verdict::Accepted);
-        }
         if !self.fits() {
             return Scan::silent(self, 0, from, Verdict::Refused(Refusal::Misfit));
+        }
+        if input.len() <= from {
+            return Scan::silent(self, 0, from, Verdict::Accepted);
         }
         self.run(input, from)
     }

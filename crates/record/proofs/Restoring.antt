@@ -6,9 +6,9 @@ use mathlib.Core.Bool.{true, false}
 use mathlib.Core.List.{List}
 use borrow.Author.Tests.{ne-eqb}
 use Rattle.signature.specs.declared.Signature.{Signature}
-use Rattle.signature.specs.Signature.{signatureFits, noSignature}
+use Rattle.signature.specs.Signature.{signatureFits}
 use Rattle.matcher.specs.declared.Matcher.{Matcher}
-use Rattle.matcher.specs.Matcher.{blank}
+use Rattle.matcher.specs.Matcher.{noMatcher}
 use Rattle.record.specs.Layout.{lengthField, checkpointKind, samePattern, matcherAt}
 use Rattle.record.specs.Calls.{
   headRefusal,
@@ -29,7 +29,7 @@ module _ (card : Signature) (s : List ℕ) where
       (n taken : ℕ) (w : Matcher)
       → (n ≡ 0 → ⊥)
       → n ≡ restoreRefusal card s
-      → w ≡ blank noSignature
+      → w ≡ noMatcher
       → taken ≡ 0
       → (n ≡ restoreRefusal card s) × ((w ≡ restoredMatcher card s) × (taken ≡ restoreTaken card s))
   unfolding restoredMatcher restoreTaken

@@ -9,7 +9,7 @@ use Rattle.ladder.specs.Prefix.{levels}
 use Rattle.signature.specs.declared.Signature.{Signature}
 use Rattle.signature.specs.Signature.{signatureFits, noSignature}
 use Rattle.matcher.specs.declared.Matcher.{Matcher}
-use Rattle.matcher.specs.Matcher.{matcherFits, blank}
+use Rattle.matcher.specs.Matcher.{matcherFits, noMatcher}
 use Rattle.record.specs.Layout.{
   wordAt,
   lengthField,
@@ -116,7 +116,7 @@ restoreRefusal card s =
     10
 
 unfoldable pub restoredMatcher : Signature → List ℕ → Matcher
-restoredMatcher card s = cond (eqb (restoreRefusal card s) 0) (matcherAt card s) (blank noSignature)
+restoredMatcher card s = cond (eqb (restoreRefusal card s) 0) (matcherAt card s) noMatcher
 
 unfoldable pub restoreTaken : Signature → List ℕ → ℕ
 restoreTaken card s = cond (eqb (restoreRefusal card s) 0) (lengthField s + 4) 0

@@ -5,8 +5,7 @@ ghost use lib.ListN.{length};
 ghost use Rattle.ladder.specs.Prefix.{levels};
 ghost use Rattle.sequence.specs.Sequence.{tabulate};
 ghost use Rattle.refusal.specs.Number.{refusalNumber, number};
-ghost use Rattle.signature.specs.Signature.{noSignature};
-ghost use Rattle.matcher.specs.Matcher.{noStage, blank};
+ghost use Rattle.matcher.specs.Matcher.{noStage, noMatcher};
 ghost use Rattle.record.specs.Layout.{
   gathered,
   markFields,
@@ -276,11 +275,11 @@ fn same_pattern(buf: &[u8], signature: Signature) -> bool
 }
 
 fn not_restored(refusal: Refusal) -> Restored
-    ensures { λ r. ⌜ (number (r .verdict) ≡ refusalNumber refusal) × (r .matcher ≡ blank noSignature) × (r .taken ≡ 0) ⌝ }
+    ensures { λ r. ⌜ (number (r .verdict) ≡ refusalNumber refusal) × (r .matcher ≡ noMatcher) × (r .taken ≡ 0) ⌝ }
 {
     Restored {
         verdict: Verdict::Refused(refusal),
-        matcher: Matcher::blank(Signature::none()),
+        matcher: Matcher::none(),
         taken: 0,
     }
 }

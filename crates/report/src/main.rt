@@ -1,132 +1,237 @@
 // The printing program (document 01, "The printing program"): standard input is a card record and then the stream; the lines go to standard
-// output. A read that fails ends the input, and output that cannot be written ends the run.
-ghost use Prim.Native.Nat.{_≤_};
+// output. After each read, the lines of all bytes read are written before the next read. A read that fails and output that cannot be written
+// are said on standard error, and then no last line is written.
+ghost use Prim.Native.Nat.{_≤_, _*_};
+ghost use mathlib.Core.Path.{_≡_};
 ghost use lib.ListN.{length};
-ghost use Rattle.io.specs.Counts.{Counts};
-ghost use Rattle.report.specs.State.{Ready, Passed, Turned};
+ghost use Rattle.descriptor.specs.Reads.{Reads};
+ghost use Rattle.reporter.specs.Reporter.{cardBytes};
+ghost use Rattle.report.specs.declared.Status.the-variants.{More};
+ghost use Rattle.report.specs.State.{bufferSize, behindFront, Sound, Passed, Ready, Turned, Standing, Closed, Over};
+use descriptor::Got;
 use libc::STDIN_FILENO;
 use libc::STDOUT_FILENO;
 use listing::Put;
+use refusal::Verdict;
 use reporter::CARD_BYTES;
 use reporter::Progress;
 use reporter::begin;
 use reporter::feed;
 use reporter::finish;
 
-// How far the run has come, how much of the output buffer is used, whether more is to be read, and whether all could be written so far.
+// More is to be read; or the input has ended or something was refused; or a read failed; or a write did.
+enum Status {
+    More,
+    Ended,
+    Unreadable,
+    Unwritable,
+}
+
+// How far the run has come, what was refused, if something was, how many bytes were read and written, and how the run goes on.
 struct State {
     progress: Progress,
-    used: usize,
-    reading: bool,
-    writable: bool,
+    verdict: Verdict,
+    read: u64,
+    written: u64,
+    status: Status,
+}
+
+// How many bytes were read and written in all, and how the run ended.
+struct Outcome {
+    read: u64,
+    written: u64,
+    status: Status,
+}
+
+// Writes the lines that the bytes of a chunk bring, as many at a time as the buffer holds.
+fn pass(s: State, chunk: &[u8], out: &mut [u8]) -> State
+    requires { ⌜ Sound (s .progress) (s .written) × (bufferSize ≡ length (now out)) ⌝ }
+    ensures { λ r. ⌜ Passed s (now (chunk .entry)) r ⌝ }
+{
+    let mut p = s.progress;
+    let mut next: usize = 0;
+    let mut written = s.written;
+    while next < chunk.len() {
+        let fed = feed(p, &chunk[next..], out);
+        let used = fed.used;
+        if !io::write_all(STDOUT_FILENO, &out[..used]) {
+            return State {
+                status: Status::Unwritable,
+                ..s
+            };
+        }
+        p = fed.progress;
+        next = next + fed.taken;
+        written = written + (used as u64);
+        let verdict = fed.verdict;
+        if let Verdict::Refused(_) = verdict {
+            return State {
+                progress: p,
+                verdict,
+                read: s.read,
+                written,
+                status: Status::Ended,
+            };
+        }
+    }
+    let status = s.status;
+    State {
+        progress: p,
+        verdict: Verdict::Accepted,
+        read: s.read,
+        written,
+        status,
+    }
 }
 
 // Reads the bytes on which the card is judged, or all of the input if that is less.
-fn read_front(input: &mut [u8]) -> usize
-    requires { ⌜ 98 ≤ length (now input) ⌝ }
-    ensures { λ n. ⌜ Counts n (now (input .exit)) ⌝ }
+fn read_front(input: &mut [u8]) -> Got
+    requires { ⌜ cardBytes ≤ length (now input) ⌝ }
+    ensures { λ r. ⌜ (r .count ≤ cardBytes) × Reads r (now (input .exit)) ⌝ }
 {
-    io::read_full(STDIN_FILENO, &mut input[..CARD_BYTES])
+    descriptor::fill(STDIN_FILENO, &mut input[..CARD_BYTES])
 }
 
-// Reads what comes next: 0 bytes at the end of the input.
-fn read_more(input: &mut [u8]) -> usize
-    ensures { λ n. ⌜ Counts n (now (input .exit)) ⌝ }
+// How the run goes on behind the front: the input has ended where it is shorter than the bytes on which a card is judged.
+fn behind_front(n: usize) -> Status
+    ensures { λ r. ⌜ r ≡ behindFront n ⌝ }
 {
-    let got = libc::read(STDIN_FILENO, input);
-    io::count(got, input)
-}
-
-// Prints what the bytes of a chunk bring, from a place on; where the buffer's room gives out, what is used of it is written.
-fn pass(progress: Progress, chunk: &[u8], from: usize, out: &mut [u8], used: usize) -> State
-    requires { ⌜ Ready progress (now out) used ⌝ }
-    ensures { λ s. ⌜ Passed progress (now (chunk .entry)) from s (now (out .exit)) ⌝ }
-{
-    let first = feed(progress, chunk, from, out, used);
-    let mut p = first.progress;
-    let mut next = first.next;
-    let mut end = first.used;
-    while next < chunk.len() {
-        if !p.goes_on() {
-            return State {
-                progress: p,
-                used: end,
-                reading: false,
-                writable: true,
-            };
-        }
-        if !io::write_all(STDOUT_FILENO, &out[..end]) {
-            return State {
-                progress: p,
-                used: 0,
-                reading: false,
-                writable: false,
-            };
-        }
-        let fed = feed(p, chunk, next, out, 0);
-        p = fed.progress;
-        next = fed.next;
-        end = fed.used;
-    }
-    let reading = p.goes_on();
-    State {
-        progress: p,
-        used: end,
-        reading,
-        writable: true,
+    if n < CARD_BYTES {
+        Status::Ended
+    } else {
+        Status::More
     }
 }
 
-// Reads the next chunk and prints what it brings.
-fn turn(progress: Progress, input: &mut [u8], out: &mut [u8], used: usize) -> State
-    requires { ⌜ Ready progress (now out) used ⌝ }
-    ensures { λ s. ⌜ Turned progress s (now (out .exit)) ⌝ }
+// Reads the card, on the bytes on which it is judged, and writes what those behind it bring.
+fn open(front: &[u8], out: &mut [u8]) -> State
+    requires { ⌜ (length (now front) ≤ cardBytes) × (bufferSize ≡ length (now out)) ⌝ }
+    ensures { λ r. ⌜ Standing r ⌝ }
 {
-    let n = read_more(input);
-    if n == 0 {
+    let begun = begin(front);
+    let verdict = begun.verdict;
+    let progress = begun.progress;
+    let read = front.len() as u64;
+    if let Verdict::Refused(_) = verdict {
         return State {
             progress,
-            used,
-            reading: false,
-            writable: true,
+            verdict,
+            read,
+            written: 0,
+            status: Status::Ended,
         };
     }
-    pass(progress, &input[..n], 0, out, used)
+    let status = behind_front(front.len());
+    let taken = begun.taken;
+    let s = State {
+        progress,
+        verdict,
+        read,
+        written: 0,
+        status,
+    };
+    pass(s, &front[taken..], out)
 }
 
-// Writes what the buffer holds, and then the last lines.
-fn write_last(progress: Progress, out: &mut [u8], used: usize)
-    requires { ⌜ used ≤ length (now out) ⌝ }
+// Reads the next chunk, and writes what it brings.
+fn turn(s: State, input: &mut [u8], out: &mut [u8]) -> State
+    requires { ⌜ Ready s × (s .status ≡ More) × (bufferSize ≡ length (now out)) ⌝ }
+    ensures { λ r. ⌜ Turned s r (now (input .exit)) ⌝ }
 {
-    if !io::write_all(STDOUT_FILENO, &out[..used]) {
-        return;
+    let got = descriptor::read(STDIN_FILENO, input);
+    if !got.ok {
+        return State {
+            status: Status::Unreadable,
+            ..s
+        };
     }
-    let put = finish(progress, out, 0);
+    let n = got.count;
+    let read = s.read + (n as u64);
+    if n == 0 {
+        return State {
+            read,
+            status: Status::Ended,
+            ..s
+        };
+    }
+    let next = State { read, ..s };
+    pass(next, &input[..n], out)
+}
+
+// Reads chunk after chunk. It ends, since each chunk brings t nearer to its limit.
+fn read_on(first: State, input: &mut [u8], out: &mut [u8]) -> State
+    requires { ⌜ Standing first × (bufferSize ≡ length (now out)) ⌝ }
+    ensures { λ r. ⌜ Standing r × (r .status ≡ More → ⊥) ⌝ }
+{
+    let mut s = first;
+    let mut status = s.status;
+    while let Status::More = status {
+        s = turn(s, input, out);
+        status = s.status;
+    }
+    s
+}
+
+// Writes the last lines.
+fn close(s: State, out: &mut [u8]) -> Outcome
+    requires { ⌜ (s .written ≤ bufferSize * s .progress .matcher .now .at) × (bufferSize ≡ length (now out)) ⌝ }
+    ensures { λ r. ⌜ Closed s r ⌝ }
+{
+    let verdict = s.verdict;
+    let progress = s.progress;
+    let put = finish(verdict, progress.matcher.now.at, progress.total, out);
     if let Put::Next(end) = put {
-        io::write_all(STDOUT_FILENO, &out[..end]);
+        if io::write_all(STDOUT_FILENO, &out[..end]) {
+            return Outcome {
+                read: s.read,
+                written: s.written + (end as u64),
+                status: Status::Ended,
+            };
+        }
+    }
+    Outcome {
+        read: s.read,
+        written: s.written,
+        status: Status::Unwritable,
     }
 }
 
-// The run: the card, the stream chunk by chunk, and the last lines. It ends, since each chunk brings t nearer to its limit.
-fn run(input: &mut [u8], out: &mut [u8])
-    requires { ⌜ (98 ≤ length (now input)) × (4096 ≤ length (now out)) ⌝ }
+// The run: the card, the stream chunk by chunk, and the last lines.
+fn run(input: &mut [u8], out: &mut [u8]) -> Outcome
+    requires { ⌜ (cardBytes ≤ length (now input)) × (bufferSize ≡ length (now out)) ⌝ }
+    ensures { λ r. ⌜ Over r ⌝ }
 {
-    let n = read_front(input);
-    let begun = begin(&input[..n]);
-    let fresh = begun.progress;
-    let mut s = pass(fresh, &input[..n], begun.taken, out, 0);
-    while s.reading {
-        let p = s.progress;
-        s = turn(p, input, out, s.used);
+    let front = read_front(input);
+    let n = front.count;
+    if !front.ok {
+        return Outcome {
+            read: n as u64,
+            written: 0,
+            status: Status::Unreadable,
+        };
     }
-    if s.writable {
-        let last = s.progress;
-        write_last(last, out, s.used);
+    let opened = open(&input[..n], out);
+    let s = read_on(opened, input, out);
+    let status = s.status;
+    if let Status::Ended = status {
+        return close(s, out);
+    }
+    Outcome {
+        read: s.read,
+        written: s.written,
+        status,
     }
 }
 
 fn main() {
     let mut input = io::large_buffer();
     let mut out = io::large_buffer();
-    run(&mut input, &mut out);
+    let outcome = run(&mut input, &mut out);
+    let status = outcome.status;
+    if let Status::Unreadable = status {
+        os::fail(b"report: the input cannot be read");
+    }
+    if let Status::Unwritable = status {
+        os::fail(b"report: the output cannot be written");
+    }
 }

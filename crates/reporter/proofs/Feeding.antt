@@ -1,193 +1,210 @@
--- The turns of `feed`: what stands in the buffer with what is still to be printed stays the same, turn by turn.
+-- The turns of `feed`: at the buffer's front stands what the bytes taken brought, and behind it the buffer is as it was.
 -- Assumes nothing.
-use Prim.Native.Nat.{ℕ, _+_, _*_, _≤_, _<_}
+use Prim.Native.Nat.{ℕ, suc, _+_, _*_, _≤_, _<_}
 use mathlib.Core.Path.{_≡_, refl, sym, _∙_, ap}
-use mathlib.Core.Bool.{true, false, or-true, true≢false}
-use mathlib.Core.List.{List, [], _++_, append-assoc}
+use mathlib.Core.Bool.{true, false, cond}
+use mathlib.Core.List.{List, [], _∷_, _++_, append-nil}
 use native.Mathlib.Omega.{arith}
-use lib.ListN.{length, take, drop, length-drop}
-use lib.Seq.{drop-drop}
-use borrow.Author.Tests.{leb-true, le-leb, ne-eqb}
-use Rattle.refusal.specs.declared.Verdict.the-variants.{Accepted}
-use Rattle.refusal.specs.Number.{number}
+use lib.Dec.{eqb}
+use lib.ListN.{length, take, drop, length-append, length-drop, take-append-drop, drop-of-length-le}
+use lib.Seq.{drop-cons, drop-drop}
+use borrow.Author.Tests.{ne-eqb, le-leb, lt-leb}
+use Rattle.refusal.specs.declared.Refusal.{Refusal}
+use Rattle.refusal.specs.declared.Verdict.the-variants.{Accepted, Refused}
+use Rattle.refusal.specs.Number.{number, refusalNumber}
 use Rattle.matcher.specs.declared.Matcher.{Matcher}
 use Rattle.matcher.specs.declared.Scan.{Scan}
-use Rattle.matcher.specs.Scan.{scanned}
-use Rattle.listing.specs.Listing.{reportLines, hasRoom}
+use Rattle.matcher.specs.Scan.{scanned, scanOf}
+use Rattle.listing.specs.Listing.{reportLines, room, hasRoom}
 use Rattle.reporter.specs.declared.Progress.{Progress}
-use Rattle.reporter.specs.Reporter.{lastLine, refusedLines, transcript, pending, mostComparisons, totalFits}
-use Rattle.reporter.specs.Calls.{stopped, Feeds}
-use Rattle.reporter.proofs.Transcript.{after, ran}
+use Rattle.reporter.specs.declared.Fed.{Fed}
+use Rattle.reporter.specs.Progress.{mostComparisons, progressFits, Heard, stopped, behind, heardWhile, roomIn, fed}
+use Rattle.reporter.specs.Calls.{Feeds}
+use Rattle.reporter.proofs.Hearing.{heard-by, behind-behind, scan-same, heard-scan}
+use Rattle.reporter.proofs.Transcript.{Ran, ran}
 use Rattle.reporter.proofs.Putting.{PutAt}
 
--- What a call of scan on the chunk from a place on has done.
-pub record Went (w : Matcher) (input : List ℕ) (from : ℕ) (s : Scan) : Type 0 where
-  pub lines :
-      (total : ℕ) (rest : List ℕ)
-      → transcript w total (drop from input ++ rest)
-      ≡ reportLines (s .matcher .now .at) (s .answer)
-      ++ after (number (s .verdict)) (s .matcher) (total + s .comparisons) (drop (s .next) input ++ rest)
-  pub later : s .matcher .now .at + from ≡ w .now .at + s .next
-  pub few : s .comparisons + mostComparisons * from ≤ mostComparisons * s .next
-  pub onward : from ≤ s .next
-  pub moves : from < length input → number (s .verdict) ≡ 0 → from < s .next
+-- what scan promises, of the bytes from a place on
+abbrev pub Scans : Matcher → List ℕ → ℕ → Scan → Type 0
+Scans w bytes from s =
+    (s .matcher ≡ scanOf w (drop from bytes) .matcher)
+    × ((s .answer ≡ scanOf w (drop from bytes) .answer)
+    × ((s .comparisons ≡ scanOf w (drop from bytes) .comparisons)
+    × ((s .next ≡ from + scanOf w (drop from bytes) .taken) × (number (s .verdict) ≡ scanOf w (drop from bytes) .refusal))))
 
-module _ (w : Matcher) (input : List ℕ) (from : ℕ) (s : Scan) where
-  -- what scan promises
-  abbrev pub Scans : Type 0
-  Scans =
-      (s .matcher ≡ scanned w (drop from input) .matcher)
-      × ((s .answer ≡ scanned w (drop from input) .answer)
-      × ((s .comparisons ≡ scanned w (drop from input) .comparisons)
-      × ((s .next ≡ from + scanned w (drop from input) .taken)
-      × (number (s .verdict) ≡ scanned w (drop from input) .refusal))))
+scan-here : (w : Matcher) (bytes : List ℕ) (from : ℕ) → from < length bytes → scanOf w (drop from bytes) ≡ scanned w (drop from bytes)
+scan-here w bytes from l = rw (drop-cons bytes from 0 l) (scan-same w _ _)
 
-  pub went : Scans → Went w input from s
-  went e =
-      let r = scanned w (drop from input) in
-      let q = ran w (drop from input) in
-      record {
-        lines = λ total rest.
-            rw (e .0, e .1 .0, e .1 .1 .0, e .1 .1 .1 .0, e .1 .1 .1 .1, ← drop-drop (r .taken) from input) (q .lines total rest);
-        later = rw (e .0) (omega (arith, e .1 .1 .1 .0, q .later));
-        few = omega (arith, e .1 .1 .0, e .1 .1 .1 .0, q .few);
-        onward = omega (arith, e .1 .1 .1 .0);
-        moves = λ l z. omega (arith, e .1 .1 .1 .0, q .moves (rw length-drop (omega arith)) (sym (e .1 .1 .1 .1) ∙ z));
-      }
-
--- How far the turns have come: at first p, the chunk from a place on, and the buffer from a place on; now q, next, used and out.
-pub record Along (p : Progress) (input : List ℕ) (from : ℕ) (entry : List ℕ) (at : ℕ) (q : Progress) (next used : ℕ) (out : List ℕ) : Type 0 where
-  pub lines :
-      (rest : List ℕ)
-      → take at entry ++ pending p (drop from input ++ rest) ≡ take used out ++ pending q (drop next input ++ rest)
-  pub behind : drop used out ≡ drop used entry
+-- How far the turns have come: at first p₀ and the buffer `entry`; now p, so many bytes taken and so many used, and the buffer `out`.
+pub record Along (p₀ : Progress) (bytes entry : List ℕ) (p : Progress) (taken used : ℕ) (out : List ℕ) : Type 0 where
+  pub said : List ℕ
+  pub same :
+      heardWhile (roomIn (length entry)) 0 p₀ bytes
+      ≡ behind taken said (heardWhile (roomIn (length entry)) used p (drop taken bytes))
+  pub place : used ≡ length said
+  pub within : used ≤ length out
+  pub front : take used out ≡ said
+  pub rest : drop used out ≡ drop used entry
   pub size : length out ≡ length entry
-  pub within : at ≤ length entry → used ≤ length entry
-  pub onward : from ≤ next
-  pub counted : q .matcher .now .at + from ≡ p .matcher .now .at + next
-  -- once the room gave out that was there at first, a byte was taken or refused
-  pub moved : hasRoom entry at ≡ true → hasRoom out used ≡ false → number (q .verdict) ≡ 0 → from < next
-  pub fits : q .total ≤ mostComparisons * q .matcher .now .at
-
--- the state behind a scan
-abbrev pub behindScan : Progress → Scan → Progress
-behindScan q s = record { matcher = s .matcher; total = q .total + s .comparisons; verdict = s .verdict }
+  pub fits : p .total ≤ mostComparisons * p .matcher .now .at
 
 pub along-begin :
-    (p : Progress) (input : List ℕ) (from : ℕ) (entry : List ℕ) (at : ℕ)
-    → totalFits p ≡ true
-    → Along p input from entry at p from at entry
-along-begin p input from entry at f =
+    (p : Progress) (bytes entry : List ℕ) → p .total ≤ mostComparisons * p .matcher .now .at → Along p bytes entry p 0 0 entry
+along-begin p bytes entry f =
     record {
-      lines = λ rest. refl;
-      behind = refl;
+      said = [];
+      same = heard-by refl (omega arith) refl refl;
+      place = refl;
+      within = omega arith;
+      front = refl;
+      rest = refl;
       size = refl;
-      within = λ l. l;
-      onward = omega arith;
-      counted = refl;
-      moved = λ a b z. absurd (true≢false (sym a ∙ b));
-      fits = leb-true _ _ f;
+      fits = f;
     }
 
-module _ (p : Progress) (input : List ℕ) (from : ℕ) (entry : List ℕ) (at : ℕ) (q : Progress) (next used : ℕ) (out : List ℕ)
-    (a : Along p input from entry at q next used out) (accepted : number (q .verdict) ≡ 0) (more : next < length input) where
-  module _ (s : Scan) (g : Went (q .matcher) input next s) (end : ℕ) (exit : List ℕ) (same : length exit ≡ length out)
-      (u : PutAt out used (reportLines (s .matcher .now .at) (s .answer)) end exit) where
-    turn-lines :
-        (rest : List ℕ)
-        → take used out ++ pending q (drop next input ++ rest)
-        ≡ take end exit ++ pending (behindScan q s) (drop (s .next) input ++ rest)
-    unfolding pending
-    turn-lines rest = rw (accepted, u .front, append-assoc) (ap (λ l. take used out ++ l) (g .lines (q .total) rest))
+-- what the turns have come to, where they end
+feeds :
+    (h : Heard) (entry out said : List ℕ) (p : Progress) (taken : ℕ) (r : Fed)
+    → h ≡ behind taken said (stopped p (number (r .verdict)))
+    → r .progress ≡ p
+    → r .taken ≡ taken
+    → r .used ≡ length said
+    → take (length said) out ≡ said
+    → drop (length said) out ≡ drop (length said) entry
+    → Feeds h entry r out
+feeds h entry out said p taken r e ep et eu front rest =
+    record {
+      verdict = rw e;
+      progress = rw e ep;
+      taken = rw e (omega (arith, et));
+      used = rw (e, append-nil) eu;
+      buffer = rw (e, append-nil) (sym (take-append-drop (length said) out) ∙ rw (front, rest));
+    }
 
-    turn-behind : drop end out ≡ drop end entry
-    turn-behind =
+-- the state behind a scan
+abbrev pub scannedOn : Progress → Scan → Progress
+scannedOn p s = record { matcher = s .matcher; total = p .total + s .comparisons }
+
+-- what comes behind it
+abbrev pub afterwards : List ℕ → List ℕ → Progress → Scan → ℕ → Heard
+afterwards entry bytes p s end =
+    cond (eqb (number (s .verdict)) 0)
+    (heardWhile (roomIn (length entry)) end (scannedOn p s) (drop (s .next) bytes))
+    (stopped (scannedOn p s) (number (s .verdict)))
+
+module _ (p₀ : Progress) (bytes entry : List ℕ) (p : Progress) (taken used : ℕ) (out : List ℕ)
+    (a : Along p₀ bytes entry p taken used out) (more : taken < length bytes) where
+  module _ (s : Scan) (q : Scans (p .matcher) bytes taken s) (end : ℕ) (exit : List ℕ)
+      (u : PutAt out used (reportLines (s .matcher .now .at) (s .answer)) end exit) (roomy : hasRoom out used ≡ true) where
+    pub turned :
+        heardWhile (roomIn (length entry)) 0 p₀ bytes
+        ≡ behind (s .next) (a .said ++ reportLines (s .matcher .now .at) (s .answer)) (afterwards entry bytes p s end)
+    turned =
+        let r = scanned (p .matcher) (drop taken bytes) in
+        rw (
+          u .place,
+          q .0,
+          q .1 .0,
+          q .1 .1 .0,
+          q .1 .1 .1 .0,
+          q .1 .1 .1 .1,
+          scan-here (p .matcher) bytes taken more,
+          ← drop-drop (r .taken) taken bytes,
+        )
+        (a .same
+        ∙ ap (behind taken (a .said)) (heard-scan (roomIn (length entry)) used p (drop taken bytes) (rw (← a .size) roomy))
+        ∙ behind-behind taken (r .taken) (a .said) _ _)
+
+    went : Ran (p .matcher) (drop taken bytes) (scanned (p .matcher) (drop taken bytes))
+    went = ran (p .matcher) (drop taken bytes)
+
+    -- t and the total behind the scan
+    pub on-fits : scannedOn p s .total ≤ mostComparisons * s .matcher .now .at
+    on-fits =
+        rw (q .0, q .1 .1 .0, scan-here (p .matcher) bytes taken more) (omega (arith, a .fits, went .later, went .few))
+
+    -- a byte was taken, or one refused
+    pub on-moves : number (s .verdict) ≡ 0 → taken < s .next
+    on-moves e =
+        let here = scan-here (p .matcher) bytes taken more in
+        let some = went .moves (rw length-drop (omega arith)) (ap (λ r. r .refusal) (sym here) ∙ sym (q .1 .1 .1 .1) ∙ e) in
+        omega (arith, q .1 .1 .1 .0, ap (λ r. r .taken) here)
+
+    -- what stands in the buffer then
+    place : end ≡ length (a .said ++ reportLines (s .matcher .now .at) (s .answer))
+    place = rw length-append (omega (arith, a .place, u .place))
+
+    front : take end exit ≡ a .said ++ reportLines (s .matcher .now .at) (s .answer)
+    front = u .front ∙ ap (λ l. l ++ reportLines (s .matcher .now .at) (s .answer)) (a .front)
+
+    rest : drop end exit ≡ drop end entry
+    rest =
         let n = length (reportLines (s .matcher .now .at) (s .answer)) in
-        rw (u .place, ← drop-drop n used out, ← drop-drop n used entry) (ap (drop n) (a .behind))
+        u .behind ∙ rw (u .place, ← drop-drop n used out, ← drop-drop n used entry) (ap (drop n) (a .rest))
 
-    pub turn : Along p input from entry at (behindScan q s) (s .next) end exit
-    turn =
+    -- a turn that nothing ends
+    pub on : length exit ≡ length out → number (s .verdict) ≡ 0 → Along p₀ bytes entry (scannedOn p s) (s .next) end exit
+    on same e =
         record {
-          lines = λ rest. a .lines rest ∙ turn-lines rest;
-          behind = u .behind ∙ turn-behind;
+          said = a .said ++ reportLines (s .matcher .now .at) (s .answer);
+          same = rw e at turned;
+          place = place;
+          within = u .within;
+          front = front;
+          rest = rest;
           size = same ∙ a .size;
-          within = λ l. omega (arith, a .size, same, u .within);
-          onward = omega (arith, a .onward, g .onward);
-          counted = omega (arith, a .counted, g .later);
-          moved = λ h f z. omega (arith, a .onward, g .moves more z);
-          fits = omega (arith, a .fits, g .later, g .few);
+          fits = on-fits;
         }
 
--- why the turns stop
-pub data Stop (input : List ℕ) (q : Progress) (next used : ℕ) (out : List ℕ) : Type 0 where
-  used-up : length input ≤ next → Stop input q next used out
-  refused : (number (q .verdict) ≡ 0 → ⊥) → Stop input q next used out
-  full : hasRoom out used ≡ false → Stop input q next used out
+    -- a turn that a refusal ends
+    pub refused :
+        (number (s .verdict) ≡ 0 → ⊥)
+        → Feeds (heardWhile (roomIn (length entry)) 0 p₀ bytes) entry
+        (record { verdict = s .verdict; progress = scannedOn p s; taken = s .next; used = end }) exit
+    refused n =
+        feeds _ entry exit (a .said ++ reportLines (s .matcher .now .at) (s .answer)) (scannedOn p s) (s .next) _
+        (rw (ne-eqb (number (s .verdict)) 0 n) at turned) refl refl place (rw place at front) (rw place at rest)
 
-stop :
-    {input : List ℕ} {q : Progress} {next used : ℕ} {out : List ℕ}
-    → Stop input q next used out
-    → stopped input (record { progress = q; next = next; used = used }) out ≡ true
-stop {input} {q} {next} (used-up l) = rw (le-leb (length input) next l)
-stop {input} {q} (refused n) = rw (ne-eqb (number (q .verdict)) 0 n, or-true)
-stop (full e) = rw (e, or-true)
+  -- the buffer is full
+  pub full :
+      hasRoom out used ≡ false
+      → Feeds (heardWhile (roomIn (length entry)) 0 p₀ bytes) entry (record { verdict = Accepted; progress = p; taken = taken; used = used }) out
+  unfolding heardWhile
+  full e =
+      let none : heardWhile (roomIn (length entry)) used p (drop taken bytes) ≡ stopped p 0 =
+      rw (drop-cons bytes taken 0 more, ← a .size, e) in
+      feeds _ entry out (a .said) p taken _ (a .same ∙ ap (behind taken (a .said)) none) refl refl (a .place) (rw (a .place) at (a .front))
+      (rw (a .place) at (a .rest))
 
--- with room at first, a byte was taken or refused
-stop-moved :
-    {p : Progress} {input : List ℕ} {from : ℕ} {entry : List ℕ} {at : ℕ} {q : Progress} {next used : ℕ} {out : List ℕ}
-    → Along p input from entry at q next used out
-    → Stop input q next used out
-    → from < length input
-    → hasRoom entry at ≡ true
-    → number (q .verdict) ≡ 0
-    → from < next
-stop-moved a (used-up k) l r z = omega arith
-stop-moved a (refused n) l r z = absurd (n z)
-stop-moved a (full f) l r z = a .moved r f z
+-- no byte is left
+pub used-up :
+    (p₀ : Progress) (bytes entry : List ℕ) (p : Progress) (taken used : ℕ) (out : List ℕ)
+    → Along p₀ bytes entry p taken used out
+    → length bytes ≤ taken
+    → Feeds (heardWhile (roomIn (length entry)) 0 p₀ bytes) entry (record { verdict = Accepted; progress = p; taken = taken; used = used }) out
+unfolding heardWhile
+used-up p₀ bytes entry p taken used out a l =
+    let none : heardWhile (roomIn (length entry)) used p (drop taken bytes) ≡ stopped p 0 = rw (drop-of-length-le bytes l) in
+    feeds _ entry out (a .said) p taken _ (a .same ∙ ap (behind taken (a .said)) none) refl refl (a .place) (rw (a .place) at (a .front))
+    (rw (a .place) at (a .rest))
 
--- what the turns have come to, where they stop
-pub feeds :
-    {p : Progress} {input : List ℕ} {from : ℕ} {entry : List ℕ} {at : ℕ} {q : Progress} {next used : ℕ} {out : List ℕ}
-    → totalFits p ≡ true
-    → Along p input from entry at q next used out
-    → Stop input q next used out
-    → Feeds p input from entry at (record { progress = q; next = next; used = used }) out
-feeds f a e =
-    record {
-      lines = a .lines;
-      behind = a .behind;
-      within = a .within;
-      onward = a .onward;
-      counted = a .counted;
-      fits = λ h. le-leb _ _ (a .fits);
-      stops = λ h. stop e;
-      moves = λ h o. stop-moved a e;
-      idle = λ h. absurd (true≢false (sym f ∙ h));
-    }
+-- The tests before the first turn.
+module _ (size : ℕ) (p : Progress) (bytes : List ℕ) where
+  pub fed-on : progressFits p ≡ true → room ≤ size → fed size p bytes ≡ heardWhile (roomIn size) 0 p bytes
+  unfolding fed
+  fed-on f r = rw (f, le-leb (0 + room) size (omega arith))
 
--- where the total is none that the bytes taken can have, nothing is taken
-pub feeds-none :
-    (p : Progress) (input : List ℕ) (from : ℕ) (entry : List ℕ) (at : ℕ)
-    → totalFits p ≡ false
-    → Feeds p input from entry at (record { progress = p; next = from; used = at }) entry
-feeds-none p input from entry at f =
-    record {
-      lines = λ rest. refl;
-      behind = refl;
-      within = λ l. l;
-      onward = omega arith;
-      counted = refl;
-      fits = λ h. h;
-      stops = λ h. absurd (true≢false (sym h ∙ f));
-      moves = λ h. absurd (true≢false (sym h ∙ f));
-      idle = λ h. refl;
-    }
+  pub fed-misfit : progressFits p ≡ false → fed size p bytes ≡ stopped p 10
+  unfolding fed
+  fed-misfit f = rw f
 
--- the last lines
-pub last-accepted : (p : Progress) → p .verdict ≡ Accepted → pending p [] ≡ lastLine (p .matcher) (p .total)
-unfolding pending transcript
-last-accepted p e = rw e
+  pub fed-small : progressFits p ≡ true → size < room → fed size p bytes ≡ stopped p 7
+  unfolding fed
+  fed-small f l = rw (f, lt-leb (0 + room) size (omega arith))
 
-pub last-refused : (p : Progress) → (number (p .verdict) ≡ 0 → ⊥) → pending p [] ≡ refusedLines (number (p .verdict)) (p .matcher) (p .total)
-unfolding pending
-last-refused p n = rw (ne-eqb (number (p .verdict)) 0 n)
+pub not-fed :
+    (h : Heard) (entry : List ℕ) (p : Progress) (refusal : Refusal) (r : Fed)
+    → h ≡ stopped p (refusalNumber refusal)
+    → r ≡ record { verdict = Refused refusal; progress = p; taken = 0; used = 0 }
+    → Feeds h entry r entry
+not-fed h entry p refusal r e q = rw (e, q) (record { verdict = refl; progress = refl; taken = refl; used = refl; buffer = refl })

@@ -1,5 +1,5 @@
 pub mod Transcript
+pub mod Hearing
 pub mod Putting
-pub mod Nearer
 pub mod Feeding
-pub mod Whole
+pub mod Sending

@@ -1,3 +1,4 @@
 pub mod Reporter
+pub mod Progress
 pub mod Calls
-pub mod Run
+pub mod Sent

@@ -1,17 +1,14 @@
--- What the printing program prints (document 01, "The printing program"), as a function of what it reads; and what a state of the program has
--- still to print.
-use Prim.Native.Nat.{ℕ, suc, _+_, _*_}
-use mathlib.Core.Bool.{Bool, cond}
+-- What the printing program prints (document 01, "The printing program"), as a function of what it reads.
+use Prim.Native.Nat.{ℕ, suc, _+_}
+use mathlib.Core.Bool.{cond}
 use mathlib.Core.List.{List, [], _∷_, _++_}
 use lib.ListN.{take, drop}
-use lib.Dec.{leb, eqb}
-use Rattle.refusal.specs.Number.{number}
+use lib.Dec.{eqb}
 use Rattle.matcher.specs.declared.Matcher.{Matcher}
 use Rattle.matcher.specs.Matcher.{fresh}
 use Rattle.matcher.specs.Stroke.{strokeRefusal, strokeAnswer, afterStroke}
 use Rattle.record.specs.Calls.{readRefusal, readSignature, readTaken}
 use Rattle.listing.specs.Listing.{lineX, lineE, reportLines}
-use Rattle.reporter.specs.declared.Progress.{Progress}
 
 -- "last `E t total`, total being all comparisons"
 abbrev pub lastLine : Matcher → ℕ → List ℕ
@@ -44,18 +41,3 @@ output input =
     cond (eqb (readRefusal (front input)) 0)
     (transcript (fresh (readSignature (front input))) 0 (drop (readTaken (front input)) input))
     (lineX (readRefusal (front input)) ++ lineE 0 0)
-
--- What a state of the program has still to print, of the bytes still to come: once something was refused, they count for nothing.
-unfoldable pub pending : Progress → List ℕ → List ℕ
-pending p bytes =
-    cond (eqb (number (p .verdict)) 0)
-    (transcript (p .matcher) (p .total) bytes)
-    (refusedLines (number (p .verdict)) (p .matcher) (p .total))
-
--- No byte brings more than k + 1 comparisons, and k is at most 20.
-abbrev pub mostComparisons : ℕ
-mostComparisons = 21
-
--- A total that the bytes taken can have; every state is such that the program comes to, and then the total fits 64 bits.
-abbrev pub totalFits : Progress → Bool
-totalFits p = leb (p .total) (mostComparisons * p .matcher .now .at)

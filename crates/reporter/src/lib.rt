@@ -1,18 +1,19 @@
 // What the printing program prints (document 01, "The printing program"): the card, the stream chunk by chunk, and the last lines.
 ghost use mathlib.Core.Path.{_≡_};
-ghost use mathlib.Core.List.{[]};
-ghost use Prim.Native.Nat.{_+_, _*_};
-ghost use lib.Dec.{leb, eqb};
+ghost use lib.ListN.{length};
+ghost use Rattle.refusal.specs.declared.Verdict.the-variants.{Refused};
 ghost use Rattle.refusal.specs.Number.{number};
-ghost use Rattle.listing.specs.Listing.{room};
-ghost use Rattle.reporter.specs.Reporter.{front, pending, totalFits};
-ghost use Rattle.reporter.specs.Calls.{Begins, Feeds, lastPlaced, lastWritten};
+ghost use Rattle.reporter.specs.Reporter.{front};
+ghost use Rattle.reporter.specs.Progress.{progressFits, fed};
+ghost use Rattle.reporter.specs.Calls.{Begins, Feeds, lastLines, lastPlaced, lastWritten};
 use listing::Put;
+use listing::ROOM;
 use listing::put_end;
 use listing::put_refusal;
 use listing::put_report;
 use matcher::Matcher;
 use record::read_signature;
+use refusal::Refusal;
 use refusal::Verdict;
 
 // The longest card record.
@@ -24,23 +25,25 @@ pub const MOST_COMPARISONS: u64 = 21;
 // The room that a buffer must have for the last lines: they are two at the most, each with the room of one byte's lines.
 pub const LAST_ROOM: usize = 4096;
 
-// How far the program has come: the watch, all comparisons, and what was refused, if something was.
+// How far the program has come: the watch and all comparisons.
 pub struct Progress {
     pub matcher: Matcher,
     pub total: u64,
-    pub verdict: Verdict,
 }
 
-// The card was read: how far the program has come, and how many bytes the card took, 0 where it is refused.
+// The card was read: why it was refused, if it was; how far the program has come; and how many bytes the card took, 0 where it is refused.
 pub struct Begun {
+    pub verdict: Verdict,
     pub progress: Progress,
     pub taken: usize,
 }
 
-// Bytes were taken: how far the program has come, the place behind the last byte taken, and the place behind the lines put.
+// Bytes were taken: why the next one was refused, if it was; how far the program has come; how many bytes were taken; and how many bytes of
+// lines stand at the buffer's front.
 pub struct Fed {
+    pub verdict: Verdict,
     pub progress: Progress,
-    pub next: usize,
+    pub taken: usize,
     pub used: usize,
 }
 
@@ -54,7 +57,7 @@ fn front(input: &[u8]) -> &[u8]
     &input[..CARD_BYTES]
 }
 
-// Reads the card at the front of the input, and starts its watch.
+// Reads the card at the front of the input, and starts its watch. Refusals: those of reading a card.
 pub fn begin(input: &[u8]) -> Begun
     ensures { λ r. ⌜ Begins (now (input .entry)) r ⌝ }
 {
@@ -64,103 +67,100 @@ pub fn begin(input: &[u8]) -> Begun
     let matcher = started.matcher;
     let verdict = card.verdict;
     Begun {
-        progress: Progress {
-            matcher,
-            total: 0,
-            verdict,
-        },
+        verdict,
+        progress: Progress { matcher, total: 0 },
         taken: card.taken,
     }
 }
 
 impl Progress {
-    // Whether the total is one that the bytes taken can have.
+    // Whether the watch is no misfit and the total is one that the bytes taken can have.
     pub fn fits(self) -> bool
-        ensures { λ ok. ⌜ ok ≡ totalFits self ⌝ }
+        ensures { λ ok. ⌜ ok ≡ progressFits self ⌝ }
     {
-        let t = self.matcher.now.at as u64;
+        let matcher = self.matcher;
+        let t = matcher.now.at as u64;
+        if !matcher.fits() {
+            return false;
+        }
         self.total <= MOST_COMPARISONS * t
-    }
-
-    // Whether nothing was refused.
-    pub fn goes_on(self) -> bool
-        ensures { λ ok. ⌜ ok ≡ eqb (number (self .verdict)) 0 ⌝ }
-    {
-        let verdict = self.verdict;
-        verdict.number() == 0
     }
 }
 
-// Takes bytes of the chunk from a place on, and puts their lines into the buffer from a place on: until the chunk is used up, the room gives
-// out, or a byte is refused.
-pub fn feed(progress: Progress, input: &[u8], from: usize, out: &mut [u8], at: usize) -> Fed
-    ensures { λ r. ⌜ Feeds progress (now (input .entry)) from (now (out .entry)) at r (now (out .exit)) ⌝ }
+// No byte is taken, and nothing is put.
+fn unfed(progress: Progress, refusal: Refusal) -> Fed
+    ensures { λ r. ⌜ r ≡ record { verdict = Refused refusal; progress = progress; taken = 0; used = 0 } ⌝ }
+{
+    Fed {
+        verdict: Verdict::Refused(refusal),
+        progress,
+        taken: 0,
+        used: 0,
+    }
+}
+
+// Takes bytes, and puts their lines at the front of the buffer: until none is left, the buffer has no room for the lines of one byte more, or a
+// byte is refused. Refusals: 10 misfit, 7 where the buffer has no room for the lines of one byte, 6 spent.
+pub fn feed(progress: Progress, bytes: &[u8], out: &mut [u8]) -> Fed
+    ensures { λ r. ⌜ Feeds (fed (length (now (out .entry))) progress (now (bytes .entry))) (now (out .entry)) r (now (out .exit)) ⌝ }
 {
     if !progress.fits() {
-        return Fed {
-            progress,
-            next: from,
-            used: at,
-        };
+        return unfed(progress, Refusal::Misfit);
+    }
+    if out.len() < ROOM {
+        return unfed(progress, Refusal::NoSpace);
     }
     let mut p = progress;
-    let mut next = from;
-    let mut used = at;
-    while next < input.len() && p.goes_on() {
+    let mut taken: usize = 0;
+    let mut used: usize = 0;
+    while taken < bytes.len() {
         let w = p.matcher;
-        let scan = w.scan(input, next);
+        let scan = w.scan(bytes, taken);
         let matcher = scan.matcher;
         let answer = scan.answer;
         let put = put_report(out, used, matcher.now.at, answer);
         let Put::Next(end) = put else {
             return Fed {
+                verdict: Verdict::Accepted,
                 progress: p,
-                next,
+                taken,
                 used,
             };
         };
         let total = p.total + scan.comparisons;
-        let verdict = scan.verdict;
-        p = Progress {
-            matcher,
-            total,
-            verdict,
-        };
-        next = scan.next;
+        p = Progress { matcher, total };
+        taken = scan.next;
         used = end;
+        let verdict = scan.verdict;
+        if let Verdict::Refused(_) = verdict {
+            return Fed {
+                verdict,
+                progress: p,
+                taken,
+                used,
+            };
+        }
     }
     Fed {
+        verdict: Verdict::Accepted,
         progress: p,
-        next,
+        taken,
         used,
     }
 }
 
-// Whether a buffer of so many bytes has the room of the last lines from a place on.
-fn has_last_room(size: usize, at: usize) -> bool
-    ensures { λ ok. ⌜ ok ≡ leb (at + 2 * room) size ⌝ }
+// Puts the last lines at the front of the buffer: what was refused, if something was, and t with the total.
+pub fn finish(verdict: Verdict, t: u32, total: u64, out: &mut [u8]) -> Put
+    ensures { λ r. ⌜ r ≡ lastPlaced (now (out .entry)) (lastLines (number verdict) t total) ⌝ }
+    ensures { λ _. ⌜ now (out .exit) ≡ lastWritten (now (out .entry)) (lastLines (number verdict) t total) ⌝ }
 {
-    if size < LAST_ROOM {
-        return false;
-    }
-    at <= size - LAST_ROOM
-}
-
-// Puts the last lines into the buffer from a place on: what was refused, if something was, and t with the total.
-pub fn finish(progress: Progress, out: &mut [u8], at: usize) -> Put
-    ensures { λ r. ⌜ r ≡ lastPlaced (now (out .entry)) at (pending progress []) ⌝ }
-    ensures { λ _. ⌜ now (out .exit) ≡ lastWritten (now (out .entry)) at (pending progress []) ⌝ }
-{
-    if !has_last_room(out.len(), at) {
+    if out.len() < LAST_ROOM {
         return Put::Full;
     }
-    let t = progress.matcher.now.at;
-    let total = progress.total;
-    let verdict = progress.verdict;
     let Verdict::Refused(refusal) = verdict else {
-        return put_end(out, at, t, total);
+        return put_end(out, 0, t, total);
     };
-    let put = put_refusal(out, at, refusal.number());
+    let put = put_refusal(out, 0, refusal.number());
     let Put::Next(next) = put else {
         return Put::Full;
     };

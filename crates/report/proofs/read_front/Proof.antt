@@ -1,5 +1,5 @@
 -- `report::read_front` meets its contract: the count lies within the part that is lent, which is 98 bytes long.
-use mathlib.Core.Path.{sym}
+use mathlib.Core.Path.{sym, _∙_}
 use native.Mathlib.Omega.{arith}
 use lib.ListN.{length-append}
 use lib.Seq.{length-take-le}
@@ -8,27 +8,25 @@ use borrow.Author.Needs.{needs}
 use Rattle.report.proofs.read_front.Statement.{statement}
 use Rattle.report.proofs.read_front.Tie as tie
 
-slice-relend-prefix-read-full : tie.Need-slice-relend-prefix-read-full
-slice-relend-prefix-read-full c = search needs
+slice-relend-prefix-fill : tie.Need-slice-relend-prefix-fill
+slice-relend-prefix-fill c = search needs
 
-slice-aggregate-read-full : tie.Need-slice-aggregate-read-full
-slice-aggregate-read-full c = sym (length-take-le 98 (c .before .before .args .input .now) (c .before .before .pre))
+slice-aggregate-fill : tie.Need-slice-aggregate-fill
+slice-aggregate-fill c = sym (length-take-le 98 (c .before .before .args .input .now) (c .before .before .pre))
 
-read-full-requires : tie.Need-read-full-requires
-read-full-requires c κs = search needs
+fill-requires : tie.Need-fill-requires
+fill-requires c κs = search needs
 
 same-length : tie.Need-same-length
 same-length c = search needs
 
 returns : tie.Need-returns
-returns c = counts _ _ (rw length-append (omega (arith, c .before .before .read-full .ensures .0)))
+returns c =
+    let f = c .before .before .fill in
+    let size = f .kept .1 .0 ∙ length-take-le 98 (c .before .before .before .before .before .args .input .now) (c .before .before .before .before .before .pre) in
+    (omega (arith, f .ensures .0, size), counts _ _ (rw length-append (omega (arith, f .ensures .0))))
 
 pub read-front-spec : {M : Type 1} → statement M
 read-front-spec =
     tie.close
-    (tie.spec
-    slice-relend-prefix-read-full
-    slice-aggregate-read-full
-    read-full-requires
-    same-length
-    returns)
+    (tie.spec slice-relend-prefix-fill slice-aggregate-fill fill-requires same-length returns)

@@ -1,19 +1,31 @@
--- `report::turn` meets its contract: a chunk that is passed has a byte.
-use mathlib.Core.Path.{sym}
-use mathlib.Core.Bool.{true≢false}
+-- `report::turn` meets its contract: a chunk that was read is counted, and then passed.
+use mathlib.Core.Path.{_≡_, refl, sym, _∙_}
 use native.Mathlib.Omega.{arith}
+use Rattle.report.proofs.Standings.{ends, passes}
+use Rattle.report.specs.State as state
 use borrow.Author.Needs.{needs}
 use Rattle.report.proofs.turn.Statement.{statement}
 use Rattle.report.proofs.turn.Tie as tie
 
-read-more-requires : tie.Need-read-more-requires
-read-more-requires c κs = search needs
+read-requires : tie.Need-read-requires
+read-requires c κs = search needs
 
 same-length : tie.Need-same-length
 same-length c = search needs
 
 returns : tie.Need-returns
-returns c = record { ready = c .before .before .before .before .before .before .before .pre; onward = omega arith; rises = λ w. absurd (true≢false (sym w)) }
+returns c = state.unread refl refl refl
+
+add-read : tie.Need-add-read
+add-read c = search needs
+
+same-length-2 : tie.Need-same-length-2
+same-length-2 c = search needs
+
+returns-2 : tie.Need-returns-2
+returns-2 c =
+    let got = c .before .before .before .before .before .before .before in
+    ends _ _ _ _ (got .before .before .before .before .pre .0) (got .read .ensures .0) (omega arith) refl
 
 slice-reshare-prefix-pass : tie.Need-slice-reshare-prefix-pass
 slice-reshare-prefix-pass c = search needs
@@ -24,28 +36,31 @@ slice-aggregate-pass c = search needs
 pass-requires : tie.Need-pass-requires
 pass-requires c κs = search needs
 
-same-length-2 : tie.Need-same-length-2
-same-length-2 c = search needs
-
 same-length-3 : tie.Need-same-length-3
 same-length-3 c = search needs
 
-returns-2 : tie.Need-returns-2
-returns-2 c =
-    let r = c .before .before .pass .ensures in
-    let some = c .before .before .before .before .before .before .before .before .read-more .ensures .1 in
-    record { ready = r .ready; onward = r .onward; rises = λ w. omega (arith, r .all w, some, c .before .before .before .before .before .if1 .left) }
+same-length-4 : tie.Need-same-length-4
+same-length-4 c = search needs
+
+returns-3 : tie.Need-returns-3
+returns-3 c =
+    let got = c .before .before .before .before .before .before .before .before .before .before .before .before in
+    let pre = got .before .before .before .before .pre in
+    passes _ _ _ _ (pre .0) (got .read .ensures .0) (omega arith) (pre .1) (c .before .before .pass .ensures)
 
 pub turn-spec : {M : Type 1} → statement M
 turn-spec =
     tie.close
     (tie.spec
-    read-more-requires
+    read-requires
     same-length
     returns
+    add-read
+    same-length-2
+    returns-2
     slice-reshare-prefix-pass
     slice-aggregate-pass
     pass-requires
-    same-length-2
     same-length-3
-    returns-2)
+    same-length-4
+    returns-3)

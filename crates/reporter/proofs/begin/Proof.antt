@@ -2,6 +2,7 @@
 use mathlib.Core.Path.{refl, _∙_, ap}
 use Rattle.matcher.specs.Matcher.{fresh}
 use Rattle.record.specs.Calls.{readRefusal, readSignature, readTaken}
+use Rattle.reporter.proofs.Hearing.{progress-by}
 use borrow.Author.Needs.{needs}
 use Rattle.reporter.proofs.begin.Statement.{statement}
 use Rattle.reporter.proofs.begin.Tie as tie
@@ -22,8 +23,7 @@ returns c =
     let same = r .before .front .ensures in
     record {
       verdict = card .0 ∙ ap readRefusal same;
-      matcher = c .before .start .ensures .1 ∙ ap fresh (card .1 .0 ∙ ap readSignature same);
-      total = refl;
+      progress = progress-by (c .before .start .ensures .1 ∙ ap fresh (card .1 .0 ∙ ap readSignature same)) refl;
       taken = card .1 .1 ∙ ap readTaken same;
     }
 

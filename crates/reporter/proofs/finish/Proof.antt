@@ -1,34 +1,18 @@
 -- `reporter::finish` meets its contract: one line, or the refusal's and the last behind it, and the buffer as it was where there is no room.
-use Prim.Native.Nat.{ℕ, _+_, _*_, _≤_}
+use Prim.Native.Nat.{ℕ, _*_, _≤_}
 use mathlib.Core.Path.{_≡_, sym, _∙_, ap}
 use native.Mathlib.Omega.{arith}
 use lib.ListN.{length}
-use borrow.Author.Tests.{leb-true, leb-false, not-true, not-false}
 use Rattle.listing.specs.Listing.{lineX, room}
 use Rattle.refusal.specs.Number.{number}
-use Rattle.reporter.proofs.Putting.{placed-next, last-full, last-one, last-two}
 use Rattle.refusal.proofs.Distinct.{refused-some}
-use Rattle.reporter.proofs.Feeding.{last-accepted, last-refused}
+use Rattle.reporter.proofs.Putting.{placed-next, last-full, last-one, last-two, last-accepted, last-refused}
 use borrow.Author.Needs.{needs}
 use Rattle.reporter.proofs.finish.Statement.{statement}
 use Rattle.reporter.proofs.finish.Tie as tie
 
--- the places: the function's begin; where there is room; where the refusal's line was put
-abbrev start : tie.Else1 → tie.Start
-start c = c .before .before .before
-
-abbrev roomy-at : tie.After-put-refusal → tie.Else1
-roomy-at c = c .before .before .before .before .before .before
-
--- what the test tells of the buffer
-roomy : (c : tie.Else1) → start c .args .at + 2 * room ≤ length (start c .args .out .now)
-roomy c = leb-true _ _ (sym (c .before .has-last-room .ensures) ∙ not-false _ (c .if1 .left))
-
-has-last-room-requires : tie.Need-has-last-room-requires
-has-last-room-requires c κs = search needs
-
 returns : tie.Need-returns
-returns c = last-full _ _ _ (leb-false _ _ (sym (c .before .has-last-room .ensures) ∙ not-true _ (c .if1 .taken)))
+returns c = last-full _ _ (omega arith)
 
 enum-known-verdict : tie.Need-enum-known-verdict
 enum-known-verdict c = search needs
@@ -45,9 +29,8 @@ same-length c = search needs
 returns-2 : tie.Need-returns-2
 returns-2 c =
     let e = c .before .before .put-end .ensures in
-    let l = c .before .before .before .before .before .before in
-    rw (last-accepted (start l .args .progress) (c .before .before .before .before .enum-told .given .1))
-    (last-one _ _ (roomy l) _ _ _ (e .0) (e .1))
+    let a = c .before .before .before .before .before .before .before .before .args in
+    rw (last-accepted (a .verdict) (a .t) (a .total) (c .before .before .before .before .enum-told .given .1)) (last-one _ (omega arith) _ _ _ (e .0) (e .1))
 
 number-requires : tie.Need-number-requires
 number-requires c κs = search needs
@@ -67,8 +50,7 @@ same-length-2 c = search needs
 returns-3 : tie.Need-returns-3
 returns-3 c =
     let u = c .before .before .before .before in
-    let l = roomy-at u in
-    let fits = placed-next (start l .args .out .now) (start l .args .at) (lineX (u .before .number .result)) (omega (arith, roomy l)) in
+    let fits = placed-next (u .before .before .before .before .before .before .before .before .args .out .now) 0 (lineX (u .before .number .result)) (omega arith) in
     let z : _≡_ {A = ℕ} 0 1 = cc (fits, u .put-refusal .ensures .0, c .enum-told2 .given .1) in
     absurd (omega arith)
 
@@ -84,16 +66,15 @@ returns-4 c =
     let put = c .before .before .before .before .before .put .given .1 in
     let u = c .before .before .before .before .before .before .before .before .before in
     let r = u .put-refusal in
-    let l = roomy-at u in
+    let a = u .before .before .before .before .before .before .before .before .args in
     let told = u .before .before .before .before .verdict .given .1 in
-    rw (last-refused (start l .args .progress) (refused-some told), ap number told ∙ sym (u .before .number .ensures))
-    (last-two _ _ (roomy l) _ _ _ _ _ _ (search needs) (sym put ∙ r .ensures .0) (r .ensures .1) (r .kept .0) (e .0) (e .1))
+    rw (last-refused (a .verdict) (a .t) (a .total) (refused-some told), ap number told ∙ sym (u .before .number .ensures))
+    (last-two _ (omega arith) _ _ _ _ _ _ (search needs) (sym put ∙ r .ensures .0) (r .ensures .1) (r .kept .0) (e .0) (e .1))
 
 pub finish-spec : {M : Type 1} → statement M
 finish-spec =
     tie.close
     (tie.spec
-    has-last-room-requires
     returns
     enum-known-verdict
     enum-told

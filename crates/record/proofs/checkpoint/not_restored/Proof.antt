@@ -7,11 +7,8 @@ use Rattle.record.proofs.checkpoint.not_restored.Tie as tie
 none-requires : tie.Need-none-requires
 none-requires c κs = search needs
 
-blank-requires : tie.Need-blank-requires
-blank-requires c κs = search needs
-
 returns : tie.Need-returns
-returns c = (refl, rw (← c .before .none .ensures) (c .blank .ensures), refl)
+returns c = (refl, c .none .ensures, refl)
 
 pub not-restored-spec : {M : Type 1} → statement M
-not-restored-spec = tie.close (tie.spec none-requires blank-requires returns)
+not-restored-spec = tie.close (tie.spec none-requires returns)

@@ -1,0 +1,78 @@
+-- `report::close` meets its contract: the last lines are written from the buffer's front, and counted.
+use Prim.Native.Nat.{_≤_, _+_}
+use mathlib.Core.Path.{_≡_, refl, sym, _∙_, ap}
+use native.Mathlib.Omega.{arith}
+use lib.ListN.{length}
+use lib.Seq.{length-take-le}
+use Rattle.reporter.proofs.Putting.{PutAt, last-at}
+use Rattle.report.specs.State as state
+use Rattle.refusal.specs.Number.{number}
+use Rattle.reporter.specs.Calls.{lastLines}
+use borrow.Author.Needs.{needs}
+use Rattle.report.proofs.close.Statement.{statement}
+use Rattle.report.proofs.close.Tie as tie
+
+-- the last lines stand at the buffer's front
+placed :
+    (c : tie.After-put)
+    → let a = c .before .before .before .before .before .before .before .before .args in
+    PutAt (a .out .now) 0 (lastLines (number (a .s .verdict)) (a .s .progress .matcher .now .at) (a .s .progress .total)) (c .put .given .0 .0)
+    (c .before .before .before .before .finish .last .1 .1 .1 .0)
+placed c = let e = c .before .before .before .before .finish .ensures in last-at _ _ _ _ (sym (c .put .given .1) ∙ e .0) (e .1)
+
+finish-requires : tie.Need-finish-requires
+finish-requires c κs = search needs
+
+enum-known-put : tie.Need-enum-known-put
+enum-known-put c = search needs
+
+slice-reshare-prefix-write-all : tie.Need-slice-reshare-prefix-write-all
+slice-reshare-prefix-write-all c = placed (c .before) .within
+
+slice-aggregate-write-all : tie.Need-slice-aggregate-write-all
+slice-aggregate-write-all c = sym (length-take-le _ _ (placed (c .before .before) .within))
+
+write-all-requires : tie.Need-write-all-requires
+write-all-requires c κs = search needs
+
+add-t13 : tie.Need-add-t13
+add-t13 c = let u = c .before .before .before .before .before in omega (arith, placed u .within, u .before .before .before .before .finish .kept .1 .1 .1 .0, u .before .before .before .before .before .before .before .before .pre .0, u .before .before .before .before .before .before .before .before .pre .1)
+
+same-length : tie.Need-same-length
+same-length c = search needs
+
+returns : tie.Need-returns
+returns c = state.written refl refl (ap (λ n. c .before .before .before .before .before .before .before .before .before .before .before .before .before .args .s .written + n) (placed (c .before .before .before .before .before) .place ∙ omega arith))
+
+enum-told : tie.Need-enum-told
+enum-told c = search needs
+
+same-length-2 : tie.Need-same-length-2
+same-length-2 c = search needs
+
+returns-2 : tie.Need-returns-2
+returns-2 c = state.unwritten refl
+
+same-length-3 : tie.Need-same-length-3
+same-length-3 c = search needs
+
+returns-3 : tie.Need-returns-3
+returns-3 c = state.unwritten refl
+
+pub close-spec : {M : Type 1} → statement M
+close-spec =
+    tie.close
+    (tie.spec
+    finish-requires
+    enum-known-put
+    slice-reshare-prefix-write-all
+    slice-aggregate-write-all
+    write-all-requires
+    add-t13
+    same-length
+    returns
+    enum-told
+    same-length-2
+    returns-2
+    same-length-3
+    returns-3)
