@@ -8,7 +8,11 @@ use Rattle.sequence.proofs.Laws.{and-left, and-right}
 use Rattle.fingerprint.specs.Fingerprint.{extended}
 use Rattle.ladder.specs.Prefix.{leastFrom, levels}
 use Rattle.ladder.specs.Ladder.{lists, without, lastOf, enter, promote, compare, visit, descend, step, after, answerAt}
-use Rattle.cases.specs.Cases.{Case, sameBytes, cases}
+use Rattle.sequence.specs.Sequence.{every, tabulate}
+use Rattle.signature.specs.Signature.{printsFit, signatureFits, signatureOf}
+use Rattle.matcher.specs.Matcher.{noneFits, oneFits, manyFit, stageFits, matcherFits, fresh}
+use Rattle.matcher.specs.Stroke.{takenOff, entered, promotedUnder, tried, visited, descended, walkedFrom, strokeAnswer, afterStroke}
+use Rattle.cases.specs.Cases.{Case, struckRing, sameBytes, cases}
 
 -- one test over the list: in each case got is want
 allHold : List Case → Bool
@@ -27,5 +31,5 @@ each-holds (List·Memᴰ·tail {x = d} {xs = more} m) h =
 
 -- Every case of the list holds.
 pub cases-hold : (c : Case) → List·Memᴰ c cases → c .got ≡ c .want
-unfolding allHold cases sameBytes extended leastFrom levels lists without lastOf enter promote compare visit descend step after answerAt
+unfolding allHold cases struckRing sameBytes extended leastFrom levels lists without lastOf enter promote compare visit descend step after answerAt every tabulate printsFit signatureFits signatureOf noneFits oneFits manyFit stageFits matcherFits fresh takenOff entered promotedUnder tried visited descended walkedFrom strokeAnswer afterStroke
 cases-hold c m = each-holds m refl

@@ -8,7 +8,13 @@ use Rattle.fingerprint.specs.declared.Key.{Key}
 use Rattle.fingerprint.specs.Fingerprint.{fp, same}
 use Rattle.ladder.specs.Prefix.{levels}
 use Rattle.ladder.specs.Ladder.{answerAt}
+use Rattle.signature.specs.Signature.{signatureOf}
 use Rattle.signature.specs.Maker.{beginRefusal}
+use Rattle.matcher.specs.declared.Ring.{Ring}
+use Rattle.matcher.specs.declared.Ring.the-variants.{Silent, At}
+use Rattle.matcher.specs.declared.Matcher.{Matcher}
+use Rattle.matcher.specs.Matcher.{fresh}
+use Rattle.matcher.specs.Stroke.{strokeAnswer, afterStroke}
 
 -- A case: what a definition gives, and what document 01 says that it gives.
 pub record Case : Type 0 where
@@ -45,6 +51,17 @@ ringNumber (some start) = suc start
 abbrev pub ringAt : Key → List ℕ → List ℕ → ℕ → ℕ
 ringAt k p stream t = ringNumber (answerAt (λ u v. same (fp k u) (fp k v)) p stream t .ring)
 
+-- The same of the ring that a stroke answers.
+abbrev pub strokeNumber : Ring → ℕ
+strokeNumber Silent = 0
+strokeNumber (At start) = suc start
+
+-- The ring at the last of these bytes, each brought to a watch by a stroke.
+unfoldable pub struckRing : Matcher → List ℕ → ℕ
+struckRing w [] = 0
+struckRing w (b ∷ []) = strokeNumber (strokeAnswer w b .ring)
+struckRing w (b ∷ c ∷ bytes) = struckRing (afterStroke w b) (c ∷ bytes)
+
 -- 1 for equal lists of bytes, 0 for others.
 unfoldable pub sameBytes : List ℕ → List ℕ → ℕ
 sameBytes [] [] = 1
@@ -78,6 +95,8 @@ cases =
     -- "With the first as passage, the second as stream rings start 0 at byte 4, a phantom": the stream is not the passage.
     ∷ ringAt (key 2) m9 m10 4 gives suc 0
     ∷ sameBytes m10 m9 gives 0
+    -- The strokes ring it too, from the fresh watch of the first one's card on.
+    ∷ struckRing (fresh (signatureOf (key 2) m9)) m10 gives suc 0
     -- "M11 key 2, 1 1 1 1 and M12 1 1 0 3: both 15."
     ∷ fp (key 2) m11 .value gives 15
     ∷ fp (key 2) m12 .value gives 15
