@@ -3,4 +3,5 @@ pub mod Follow
 pub mod Visits
 pub mod WatchFits
 pub mod Refines
+pub mod Readings
 pub mod EveryCard

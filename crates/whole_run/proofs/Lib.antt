@@ -6,3 +6,4 @@ pub mod Resuming
 pub mod Claims
 pub mod Theorem
 pub mod Scans
+pub mod Readings

@@ -1,0 +1,29 @@
+-- Wherever a list of calls stands, both readings of "when one is left, last and F_last become first and F_first" agree.
+-- Assumes nothing.
+use Prim.Native.Nat.{ℕ, _<_}
+use mathlib.Core.Path.{_≡_}
+use mathlib.Core.List.{List}
+use lib.ListN.{getD}
+use Rattle.fingerprint.specs.declared.Key.{Key}
+use Rattle.signature.specs.declared.Signature.{Signature}
+use Rattle.matcher.specs.declared.Matcher.{Matcher}
+use Rattle.matcher.specs.Matcher.{stageCount, noStage}
+use Rattle.matcher.specs.Stroke.{alone, takenOff}
+use Rattle.refinement.proofs.Readings.{both-readings}
+use Rattle.whole_run.specs.History.{History, bytesOf}
+use Rattle.whole_run.specs.Run.{CardOf, Call, Run}
+use Rattle.whole_run.proofs.Cards.{card-of}
+use Rattle.whole_run.proofs.Tracks.{run-tracks}
+
+-- A stage that lists two starts is left with the last of them.
+pub run-both-readings :
+    (key : Key) (p : List ℕ) (card : Signature)
+    → CardOf key p card
+    → {calls : List Call} {w : Matcher} {h : History}
+    → Run card calls w h
+    → (i : ℕ)
+    → i < stageCount
+    → getD (w .stages) i noStage .held ≡ 2
+    → takenOff key (getD (w .stages) i noStage) ≡ alone (getD (w .stages) i noStage .last)
+run-both-readings key p card c {h = h} run i place =
+    rw (run-tracks c run .watch) (both-readings key p (card-of c .not-empty) (bytesOf h) i place)
