@@ -2,6 +2,7 @@
 
 import fcntl
 import os
+import resource
 import select
 import subprocess
 import sys
@@ -19,11 +20,20 @@ Ran = namedtuple("Ran", "printed errors status")
 patience = 60                   # seconds in which a program must read, write or end
 
 
-def start(words, stdin, stdout):
+def start(words, stdin, stdout, room=None):
+    """Starts a program; with a room it can write no file longer than that, and no signal says so."""
     closed = [fd for fd, given in enumerate((stdin, stdout)) if given is CLOSED]
     stdin, stdout = (None if given is CLOSED else given for given in (stdin, stdout))
+
+    def prepare():
+        for fd in closed:
+            os.close(fd)
+        if room is not None:
+            resource.setrlimit(resource.RLIMIT_FSIZE, (room, room))
+
     return subprocess.Popen(words, stdin=stdin, stdout=stdout, stderr=PIPE, bufsize=0,
-                            preexec_fn=lambda: [os.close(fd) for fd in closed])
+                            preexec_fn=prepare if closed or room is not None else None,
+                            restore_signals=room is None)
 
 
 def run(words, stdin, stdout=PIPE, data=None):
@@ -37,6 +47,14 @@ def on_file(words, data, stdout=PIPE):
         file.write(data)
         file.seek(0)
         return run(words, file, stdout)
+
+
+def with_room(words, data, room):
+    """Runs a program that can write so many bytes to standard output, a file, and no more."""
+    with tempfile.TemporaryFile() as out, start(words, PIPE, out, room) as process:
+        ran = ended(process, data)
+        out.seek(0)
+        return ran._replace(printed=out.read())
 
 
 def on_pipe(words, data):
