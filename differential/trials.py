@@ -1,13 +1,14 @@
 #!/usr/bin/env python3
-"""What the trial programs must write, worked out without them.
+"""What the trial program must write.
 
-The generator of patterns and streams is replayed; answers come from the ladder
-with unlimited lists (reference.py), occurrences from a search over the bytes,
-refusals from document 01's conditions (refusals.py).
+What is tried is replayed: the generator of patterns and streams, the shapes and
+lengths, the order of calls and the printed lines are written from the program
+(crates/trials). What comes out is worked out without it: answers by the ladder
+with unlimited lists (reference.py), occurrences by a search over the bytes,
+refusals by document 01's conditions (refusals.py).
 
-    trials.py runs > crates/trials_runs/stdout
-    trials.py cuts > crates/trials_cuts/stdout
-    trials.py refusals > crates/trials_refusals/stdout
+    trials.py > crates/trials/stdout
+    trials.py runs              one part alone: runs, cuts or refusals
 """
 
 import copy
@@ -409,5 +410,8 @@ def cuts():
     print("failures 0")
 
 
+PARTS = {"runs": runs, "cuts": cuts, "refusals": refusals}
+
 if __name__ == "__main__":
-    {"runs": runs, "cuts": cuts, "refusals": refusals}[sys.argv[1]]()
+    for part in sys.argv[1:] or PARTS:
+        PARTS[part]()

@@ -1,15 +1,15 @@
 // An answer, held against demand 3 by the plain search.
 use crate::compare::ring_number;
+use crate::starts::rung;
+use crate::starts::set_aside;
+use crate::tally::COMPARISONS;
+use crate::tally::add;
+use crate::tally::expect;
+use crate::tally::mix;
 use matcher::Answer;
 use matcher::Progression;
 use matcher::Ring;
-use naive::search::rung;
-use naive::search::set_aside;
-use naive::search::stages;
-use naive::tally::COMPARISONS;
-use naive::tally::add;
-use naive::tally::expect;
-use naive::tally::mix;
+use naive::stages;
 
 // A place of the answer's list of sets: a set if it counts, else nothing.
 fn account_set(
@@ -25,12 +25,7 @@ fn account_set(
         expect(tally, set.first == 0 && set.step == 0 && set.many == 0);
         return;
     }
-    let found = naive::search::Progression {
-        first: set.first,
-        step: set.step,
-        many: set.many,
-    };
-    set_aside(stream, pattern, key, found, marks, tally);
+    set_aside(stream, pattern, key, set, marks, tally);
 }
 
 fn account_sets(

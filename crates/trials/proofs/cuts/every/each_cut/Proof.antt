@@ -1,0 +1,31 @@
+-- `trials::cuts::every::each_cut` is safe and ends.
+use borrow.Author.Needs.{needs}
+use Prim.Native.Nat.{_-_}
+use mathlib.Core.Path.{_≡_}
+use lib.ListN.{length}
+use Rattle.trials.proofs.cuts.every.each_cut.Statement.{statement}
+use Rattle.trials.proofs.cuts.every.each_cut.Tie as tie
+
+abbrev Inv-loop : tie.InvT-loop
+Inv-loop signature stream pattern key marks₀ tally₀ w₀ t₀ marks tally w t = (length marks ≡ length marks₀) × (length tally ≡ length tally₀)
+
+abbrev μ-loop : tie.MeasureT-loop
+μ-loop signature stream pattern key marks₀ tally₀ w₀ t₀ marks tally w t = length stream - t
+
+pub each-cut-spec : {M : Type 1} → statement M
+each-cut-spec =
+    tie.close
+    (tie.spec
+    Inv-loop
+    μ-loop
+    (λ c. search needs)
+    (λ c κs. search needs)
+    (λ c. search needs)
+    (λ c κs. search needs)
+    (λ c κs. search needs)
+    (λ c. search needs)
+    (λ c. search needs)
+    (λ c κs. search needs)
+    (λ c. search needs)
+    (λ c. search needs)
+    (λ c. search needs))

@@ -1,0 +1,32 @@
+-- `trials::cuts::layout::put_card` is safe and ends.
+use borrow.Author.Needs.{needs}
+use Prim.Native.Nat.{_-_}
+use mathlib.Core.Path.{_≡_}
+use lib.ListN.{length}
+use Rattle.trials.proofs.cuts.layout.put_card.Statement.{statement}
+use Rattle.trials.proofs.cuts.layout.put_card.Tie as tie
+
+abbrev Inv-loop : tie.InvT-loop
+Inv-loop buffer₀ prints k i₀ buffer i = length buffer ≡ length buffer₀
+
+abbrev μ-loop : tie.MeasureT-loop
+μ-loop buffer₀ prints k i₀ buffer i = 21 - i
+
+pub put-card-spec : {M : Type 1} → statement M
+put-card-spec =
+    tie.close
+    (tie.spec
+    Inv-loop
+    μ-loop
+    (λ c. search needs)
+    (λ c κs. search needs)
+    (λ c. search needs)
+    (λ c κs. search needs)
+    (λ c κs. search needs)
+    (λ c. search needs)
+    (λ c κs. search needs)
+    (λ c. search needs)
+    (λ c. search needs)
+    (λ c. search needs)
+    (λ c. search needs)
+    (λ c. search needs))

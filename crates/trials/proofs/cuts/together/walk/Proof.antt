@@ -1,0 +1,29 @@
+-- `trials::cuts::together::walk` is safe and ends.
+use borrow.Author.Needs.{needs}
+use Prim.Native.Nat.{_-_}
+use mathlib.Core.Path.{_≡_}
+use lib.ListN.{length}
+use Rattle.trials.proofs.cuts.together.walk.Statement.{statement}
+use Rattle.trials.proofs.cuts.together.walk.Tie as tie
+
+abbrev Inv-loop : tie.InvT-loop
+Inv-loop cards stream pattern marks₀ tally₀ pairs₀ t₀ marks tally pairs t = (length marks ≡ length marks₀) × (length tally ≡ length tally₀)
+
+abbrev μ-loop : tie.MeasureT-loop
+μ-loop cards stream pattern marks₀ tally₀ pairs₀ t₀ marks tally pairs t = length stream - t
+
+pub walk-spec : {M : Type 1} → statement M
+walk-spec =
+    tie.close
+    (tie.spec
+    Inv-loop
+    μ-loop
+    (λ c. search needs)
+    (λ c. search needs)
+    (λ c κs. search needs)
+    (λ c κs. search needs)
+    (λ c. search needs)
+    (λ c. search needs)
+    (λ c. search needs)
+    (λ c. search needs)
+    (λ c. search needs))

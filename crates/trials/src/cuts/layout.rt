@@ -1,0 +1,104 @@
+// Records as document 01 lays them out, written number by number: what the matcher writes is held against them.
+use crate::bytes::minus;
+use crate::bytes::plus;
+use crate::bytes::put;
+use crate::bytes::put_number;
+use crate::bytes::short;
+use fingerprint::Fingerprint;
+use matcher::Mark;
+use matcher::Matcher;
+use matcher::Stage;
+use naive::stages;
+use signature::Signature;
+
+// The size of a parked record: the length field and what it counts.
+pub fn record_size(m: u32) -> usize {
+    26 + 28 * (stages(m as usize) as usize)
+}
+
+// The size of a card's record.
+pub fn card_size(m: u32) -> usize {
+    18 + 4 * (stages(m as usize) as usize)
+}
+
+// Length, kind, m and r, for a record of so many bytes.
+fn put_head(buffer: &mut [u8], at: usize, size: usize, kind: u8, signature: Signature) {
+    put_number(buffer, at, short(minus(size, 4)));
+    put(buffer, plus(at, 4), kind);
+    put(buffer, plus(at, 5), 0);
+    put_number(buffer, plus(at, 6), signature.length);
+    put_number(buffer, plus(at, 10), signature.key.r);
+}
+
+// The fingerprint of P_i.
+fn print_number(prints: [Fingerprint; 21], i: usize) -> u32 {
+    if 20 < i {
+        return 0;
+    }
+    let print = prints[i];
+    print.value
+}
+
+// A start and its F, or t and F_t.
+fn put_mark(buffer: &mut [u8], at: usize, mark: Mark) {
+    put_number(buffer, at, mark.at);
+    put_number(buffer, plus(at, 4), mark.print.value);
+}
+
+// held, first, F_first, last, F_last, step, step print.
+fn put_stage(buffer: &mut [u8], at: usize, stage: Stage) {
+    let step = stage.step;
+    put_number(buffer, at, stage.held);
+    put_mark(buffer, plus(at, 4), stage.first);
+    put_mark(buffer, plus(at, 12), stage.last);
+    put_number(buffer, plus(at, 20), step.length);
+    put_number(buffer, plus(at, 24), step.print.value);
+}
+
+// Stage i of the k that a record has, nothing past them.
+fn put_stage_of(buffer: &mut [u8], at: usize, stage: Stage, i: usize, k: usize) {
+    if i < k {
+        put_stage(buffer, plus(at, i % 20 * 28), stage);
+    }
+}
+
+// The first k stages, from a place on.
+fn put_stages(buffer: &mut [u8], at: usize, stages: [Stage; 20], k: usize) {
+    let mut i: usize = 0;
+    while i < 20 {
+        let stage = stages[i];
+        put_stage_of(buffer, at, stage, i, k);
+        i = i + 1;
+    }
+}
+
+// A parked watch, from a place on: kind 2, m, r, the fingerprint of P_k, t, F_t, then the stages.
+pub fn put_watch(buffer: &mut [u8], at: usize, w: Matcher) {
+    let signature = w.signature;
+    let prints = signature.prints;
+    let listed = w.stages;
+    let k = stages(signature.length as usize) as usize;
+    put_head(buffer, at, record_size(signature.length), 2, signature);
+    put_number(buffer, plus(at, 14), print_number(prints, k));
+    put_mark(buffer, plus(at, 18), w.now);
+    put_stages(buffer, plus(at, 26), listed, k);
+}
+
+// The fingerprint of P_i, for i up to k.
+fn put_print_of(buffer: &mut [u8], prints: [Fingerprint; 21], i: usize, k: usize) {
+    if i <= k {
+        put_number(buffer, plus(14, i % 21 * 4), print_number(prints, i));
+    }
+}
+
+// A card, in the front: kind 1, m, r, the fingerprints of P_0 .. P_k.
+pub fn put_card(buffer: &mut [u8], signature: Signature) {
+    let prints = signature.prints;
+    let k = stages(signature.length as usize) as usize;
+    put_head(buffer, 0, card_size(signature.length), 1, signature);
+    let mut i: usize = 0;
+    while i < 21 {
+        put_print_of(buffer, prints, i, k);
+        i = i + 1;
+    }
+}

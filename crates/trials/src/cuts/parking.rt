@@ -1,0 +1,123 @@
+// A watch or a card, written and read back.
+use crate::bytes::copy;
+use crate::bytes::differs;
+use crate::bytes::front;
+use crate::bytes::plus;
+use crate::cards::accepted;
+use crate::compare::same_matcher;
+use crate::compare::same_signature;
+use crate::cuts::layout::card_size;
+use crate::cuts::layout::put_card;
+use crate::cuts::layout::put_watch;
+use crate::cuts::layout::record_size;
+use crate::tally::PARKED;
+use crate::tally::RESUMED;
+use crate::tally::add;
+use crate::tally::expect;
+use crate::tally::mix_record;
+use matcher::Matcher;
+use record::checkpoint::restore;
+use record::checkpoint::save;
+use record::checkpoint::save_behind;
+use record::read_signature;
+use record::write_signature;
+use signature::Signature;
+
+// What a buffer holds before anything is written to it.
+pub const FILLER: u8 = 170;
+
+// A buffer longer than any record, and one longer than any buffer in which watches are parked one behind another.
+pub const ROOM: usize = 600;
+
+const LARGEST: usize = 6144;
+
+// What a buffer must hold once a watch is parked in it from a place on: the record as document 01 lays it out, all else as it was.
+fn foresee(w: Matcher, buffer: &[u8], at: usize, wanted: &mut [u8]) {
+    copy(buffer, 0, wanted, 0, buffer.len());
+    put_watch(wanted, at, w);
+}
+
+// Parks a watch in the front of a buffer of at most 600 bytes.
+fn park(w: Matcher, buffer: &mut [u8], tally: &mut [u32]) {
+    let mut wanted = [0u8; ROOM];
+    foresee(w, buffer, 0, &mut wanted);
+    let written = save(w, buffer);
+    let verdict = written.verdict;
+    expect(
+        tally,
+        accepted(verdict) && written.used == record_size(w.signature.length),
+    );
+    expect(tally, !differs(&wanted, 0, buffer));
+    add(tally, PARKED, 1);
+}
+
+// Parks a watch behind the used bytes of a buffer of at most 6144 bytes, and hands back the new used length. The used bytes stay as they
+// were, and so do those behind the record.
+pub fn park_behind(w: Matcher, buffer: &mut [u8], used: usize, tally: &mut [u32]) -> usize {
+    let mut wanted = [0u8; LARGEST];
+    foresee(w, buffer, used, &mut wanted);
+    let written = save_behind(w, buffer, used);
+    let verdict = written.verdict;
+    expect(
+        tally,
+        accepted(verdict) && written.used == plus(used, record_size(w.signature.length)),
+    );
+    expect(tally, !differs(&wanted, 0, buffer));
+    add(tally, PARKED, 1);
+    written.used
+}
+
+// Resumes a watch under its card: that takes the record's bytes and gives the watch that was parked.
+pub fn resume(signature: Signature, buffer: &[u8], parked: Matcher, tally: &mut [u32]) -> Matcher {
+    let restored = restore(signature, buffer);
+    let verdict = restored.verdict;
+    expect(
+        tally,
+        accepted(verdict) && restored.taken == record_size(signature.length),
+    );
+    expect(tally, same_matcher(parked, restored.matcher));
+    add(tally, RESUMED, 1);
+    restored.matcher
+}
+
+// Parks a watch and resumes it.
+pub fn cut(w: Matcher, signature: Signature, tally: &mut [u32]) -> Matcher {
+    let mut record = [FILLER; ROOM];
+    park(w, &mut record, tally);
+    mix_record(tally, front(&record, record_size(signature.length)));
+    resume(signature, &record, w, tally)
+}
+
+// Writes a card into the front of a buffer of at most 600 bytes: as document 01 lays it out, all else as it was.
+fn write(signature: Signature, buffer: &mut [u8], tally: &mut [u32]) {
+    let mut wanted = [0u8; ROOM];
+    copy(buffer, 0, &mut wanted, 0, buffer.len());
+    put_card(&mut wanted, signature);
+    let written = write_signature(signature, buffer);
+    let verdict = written.verdict;
+    expect(
+        tally,
+        accepted(verdict) && written.used == card_size(signature.length),
+    );
+    expect(tally, !differs(&wanted, 0, buffer));
+}
+
+// Reads a card back: that takes the record's bytes and gives the card that was written.
+fn read(buffer: &[u8], written: Signature, tally: &mut [u32]) -> Signature {
+    let read = read_signature(buffer);
+    let verdict = read.verdict;
+    expect(
+        tally,
+        accepted(verdict) && read.taken == card_size(written.length),
+    );
+    expect(tally, same_signature(written, read.signature));
+    read.signature
+}
+
+// A card, written and read back.
+pub fn reread(signature: Signature, tally: &mut [u32]) -> Signature {
+    let mut buffer = [FILLER; ROOM];
+    write(signature, &mut buffer, tally);
+    mix_record(tally, front(&buffer, card_size(signature.length)));
+    read(&buffer, signature, tally)
+}
