@@ -1,0 +1,5 @@
+pub mod Decided
+pub mod Bytes
+pub mod Halves
+pub mod Collisions
+pub mod Twins
