@@ -1,5 +1,9 @@
 // Makes a card (document 01, "Card" and "Records"): the passage comes from standard input, the key is the one argument, and the card record goes
-// to standard output. What is refused is said on standard error, by its number.
+// to standard output. What is refused is said on standard error, by its number; so are a read that fails, and then no card is written, and a card
+// that cannot be written.
+ghost use mathlib.Core.Path.{_≡_};
+ghost use lib.ListN.{length};
+ghost use Rattle.card.specs.Outcome.{Carded};
 use fingerprint::Key;
 use libc::STDERR_FILENO;
 use libc::STDIN_FILENO;
@@ -8,14 +12,30 @@ use listing::Put;
 use listing::put_refusal;
 use maker::Parsed;
 use maker::key_of;
-use maker::make;
 use maker::parse;
-use record::write_signature;
+use maker::write_card;
 use refusal::Verdict;
-use signature::Signature;
+
+// The card was written; or it is refused; or a read failed; or the write did.
+enum Status {
+    Written,
+    Refused,
+    Unreadable,
+    Unwritable,
+}
+
+// How many bytes of the passage were read, how many of the card were written, what was refused, if something was, and how it ended.
+struct Outcome {
+    read: usize,
+    written: usize,
+    verdict: Verdict,
+    status: Status,
+}
 
 // One byte more than the longest passage, so that a longer one is seen.
-fn passage_buffer() -> [u8; 1048577] {
+fn passage_buffer() -> [u8; 1048577]
+    ensures { λ r. ⌜ 1048577 ≡ length r ⌝ }
+{
     [0; 1048577]
 }
 
@@ -36,26 +56,57 @@ fn say_refusal(number: u32) {
     }
 }
 
-// The card's record.
-fn print_card(signature: Signature) {
-    let mut bytes = io::buffer();
-    let written = write_signature(signature, &mut bytes);
-    let used = written.used;
-    io::write_all(STDOUT_FILENO, &bytes[..used]);
+// Reads the passage, and writes its card.
+fn make_card(key: Key, passage: &mut [u8], out: &mut [u8]) -> Outcome
+    ensures { λ r. ⌜ Carded key (now (passage .exit)) (now (out .entry)) (now (out .exit)) r ⌝ }
+{
+    let got = descriptor::fill(STDIN_FILENO, passage);
+    let read = got.count;
+    if !got.ok {
+        return Outcome {
+            read,
+            written: 0,
+            verdict: Verdict::Accepted,
+            status: Status::Unreadable,
+        };
+    }
+    let card = write_card(&passage[..read], key, out);
+    let verdict = card.verdict;
+    if let Verdict::Refused(_) = verdict {
+        return Outcome {
+            read,
+            written: 0,
+            verdict,
+            status: Status::Refused,
+        };
+    }
+    let used = card.used;
+    if io::write_all(STDOUT_FILENO, &out[..used]) {
+        return Outcome {
+            read,
+            written: used,
+            verdict,
+            status: Status::Written,
+        };
+    }
+    Outcome {
+        read,
+        written: 0,
+        verdict,
+        status: Status::Unwritable,
+    }
 }
 
-// Reads the passage, and makes its card.
-fn make_card(key: Key) {
-    let mut passage = passage_buffer();
-    let n = io::read_full(STDIN_FILENO, &mut passage);
-    let made = make(&passage[..n], key);
-    let verdict = made.verdict;
-    if let Verdict::Refused(refusal) = verdict {
-        say_refusal(refusal.number());
-        return;
+// Says on standard error why there is no card.
+fn say(outcome: Outcome) {
+    let status = outcome.status;
+    let verdict = outcome.verdict;
+    match status {
+        Status::Written => {}
+        Status::Refused => say_refusal(verdict.number()),
+        Status::Unreadable => os::fail(b"card: the passage cannot be read"),
+        Status::Unwritable => os::fail(b"card: the card cannot be written"),
     }
-    let signature = made.signature;
-    print_card(signature);
 }
 
 fn main() {
@@ -70,5 +121,8 @@ fn main() {
         complain();
         return;
     };
-    make_card(key_of(number));
+    let mut passage = passage_buffer();
+    let mut out = io::buffer();
+    let outcome = make_card(key_of(number), &mut passage, &mut out);
+    say(outcome);
 }

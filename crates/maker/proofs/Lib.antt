@@ -1,2 +1,3 @@
 pub mod Passage
 pub mod Digits
+pub mod Cards

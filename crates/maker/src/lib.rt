@@ -1,10 +1,12 @@
-// A card made from a whole passage (document 01, "Card"), and the key as a program's argument.
+// A card made from a whole passage (document 01, "Card"), its record, and the key as a program's argument.
 ghost use mathlib.Core.Path.{_≡_};
 ghost use Prim.Native.Nat.{min};
 ghost use Rattle.refusal.specs.Number.{number};
-ghost use Rattle.maker.specs.Maker.{makeRefusal, madeSignature};
+ghost use Rattle.maker.specs.Maker.{makeRefusal, madeSignature, cardRefusal, cardUsed, cardBuffer};
 ghost use Rattle.maker.specs.Argument.{parsed, keyOf};
 use fingerprint::Key;
+use record::Written;
+use record::write_signature;
 use refusal::Verdict;
 use signature::Builder;
 use signature::Finished;
@@ -83,4 +85,19 @@ pub fn make(passage: &[u8], key: Key) -> Finished
         i = i + 1;
     }
     builder.finish()
+}
+
+// Writes the card of a passage into the front of the buffer. Refusals: 1 empty, 2 overlong, 3 key, 7 no space.
+pub fn write_card(passage: &[u8], key: Key, out: &mut [u8]) -> Written
+    ensures verdict { λ r. ⌜ number (r .verdict) ≡ cardRefusal key (now (passage .entry)) (now (out .entry)) ⌝ }
+    ensures used { λ r. ⌜ r .used ≡ cardUsed key (now (passage .entry)) (now (out .entry)) ⌝ }
+    ensures buffer { λ r. ⌜ now (out .exit) ≡ cardBuffer key (now (passage .entry)) (now (out .entry)) ⌝ }
+{
+    let made = make(passage, key);
+    let verdict = made.verdict;
+    if let Verdict::Refused(_) = verdict {
+        return Written { verdict, used: 0 };
+    }
+    let signature = made.signature;
+    write_signature(signature, out)
 }
