@@ -81,10 +81,11 @@ fn make_card(key: Key, passage: &mut [u8], out: &mut [u8]) -> Outcome
         };
     }
     let used = card.used;
-    if io::write_all(STDOUT_FILENO, &out[..used]) {
+    let sent = descriptor::write(STDOUT_FILENO, &out[..used]);
+    if sent.ok {
         return Outcome {
             read,
-            written: used,
+            written: sent.count,
             verdict,
             status: Status::Written,
         };

@@ -1,5 +1,7 @@
-// Reading from a descriptor, with a read that failed told apart from the end of the input. No contract can say which bytes a read brings.
-ghost use Rattle.descriptor.specs.Reads.{Reads};
+// Reading from a descriptor, with a read that failed told apart from the end of the input, and writing to one. No contract can say which bytes a
+// read brings, or what a write does; these are the only functions of the project that call the toolchain's own (docs/DECISIONS.md, "Read and
+// write").
+ghost use Rattle.descriptor.specs.Reads.{Reads, ReadOnce, Writes};
 
 // How many bytes were read, to the buffer's front, and whether no read failed.
 pub struct Got {
@@ -7,15 +9,26 @@ pub struct Got {
     pub ok: bool,
 }
 
+// How many bytes were written: all, or none that count, where a write failed.
+pub struct Sent {
+    pub count: usize,
+    pub ok: bool,
+}
+
 // Reads once: no bytes at the end of the input, or where the read failed.
 pub fn read(fd: i32, buf: &mut [u8]) -> Got
-    ensures { λ r. ⌜ Reads r (now (buf .exit)) ⌝ }
+    ensures { λ r. ⌜ ReadOnce r (now (buf .exit)) ⌝ }
 {
     let got = libc::read(fd, buf);
-    let count = io::count(got, buf);
+    if got < 0 {
+        return Got {
+            count: 0,
+            ok: false,
+        };
+    }
     Got {
-        count,
-        ok: 0 <= got,
+        count: io::count(got, buf),
+        ok: true,
     }
 }
 
@@ -35,4 +48,20 @@ pub fn fill(fd: i32, buf: &mut [u8]) -> Got
         count = count + got.count;
     }
     Got { count, ok: true }
+}
+
+// Writes all of the bytes.
+pub fn write(fd: i32, bytes: &[u8]) -> Sent
+    ensures { λ r. ⌜ Writes r (now (bytes .entry)) ⌝ }
+{
+    if io::write_all(fd, bytes) {
+        return Sent {
+            count: bytes.len(),
+            ok: true,
+        };
+    }
+    Sent {
+        count: 0,
+        ok: false,
+    }
 }

@@ -54,7 +54,8 @@ fn pass(s: State, chunk: &[u8], out: &mut [u8]) -> State
     while next < chunk.len() {
         let fed = feed(p, &chunk[next..], out);
         let used = fed.used;
-        if !io::write_all(STDOUT_FILENO, &out[..used]) {
+        let sent = descriptor::write(STDOUT_FILENO, &out[..used]);
+        if !sent.ok {
             return State {
                 status: Status::Unwritable,
                 ..s
@@ -62,7 +63,7 @@ fn pass(s: State, chunk: &[u8], out: &mut [u8]) -> State
         }
         p = fed.progress;
         next = next + fed.taken;
-        written = written + (used as u64);
+        written = written + (sent.count as u64);
         let verdict = fed.verdict;
         if let Verdict::Refused(_) = verdict {
             return State {
@@ -181,10 +182,11 @@ fn close(s: State, out: &mut [u8]) -> Outcome
     let progress = s.progress;
     let put = finish(verdict, progress.matcher.now.at, progress.total, out);
     if let Put::Next(end) = put {
-        if io::write_all(STDOUT_FILENO, &out[..end]) {
+        let sent = descriptor::write(STDOUT_FILENO, &out[..end]);
+        if sent.ok {
             return Outcome {
                 read: s.read,
-                written: s.written + (end as u64),
+                written: s.written + (sent.count as u64),
                 status: Status::Ended,
             };
         }

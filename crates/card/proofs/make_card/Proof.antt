@@ -4,6 +4,7 @@ use mathlib.Core.Path.{_≡_, refl, sym, _∙_, ap}
 use mathlib.Core.List.{List}
 use lib.ListN.{length, take}
 use lib.Seq.{length-take-le}
+use Rattle.descriptor.proofs.Written.{all-written}
 use Rattle.refusal.specs.Number.{number}
 use Rattle.refusal.proofs.Distinct.{refused-some}
 use Rattle.signature.specs.Signature.{signatureOf}
@@ -76,14 +77,14 @@ returns-2 c =
 enum-told-2 : tie.Need-enum-told-2
 enum-told-2 c = search needs
 
-slice-reshare-prefix-write-all : tie.Need-slice-reshare-prefix-write-all
-slice-reshare-prefix-write-all c = record-stands c .2
+slice-reshare-prefix-write : tie.Need-slice-reshare-prefix-write
+slice-reshare-prefix-write c = record-stands c .2
 
-slice-aggregate-write-all : tie.Need-slice-aggregate-write-all
-slice-aggregate-write-all c = sym (length-take-le _ _ (record-stands (c .before) .2))
+slice-aggregate-write : tie.Need-slice-aggregate-write
+slice-aggregate-write c = sym (length-take-le _ _ (record-stands (c .before) .2))
 
-write-all-requires : tie.Need-write-all-requires
-write-all-requires c κs = search needs
+write-requires : tie.Need-write-requires
+write-requires c κs = search needs
 
 same-length-4 : tie.Need-same-length-4
 same-length-4 c = search needs
@@ -94,7 +95,9 @@ same-length-5 c = search needs
 returns-3 : tie.Need-returns-3
 returns-3 c =
     let t = c .before .before .before in
-    outcome.written refl (filled (carded t) .fill .ensures .0) (accepted t) (record-stands t .0) (record-stands t .1)
+    let w = carded t .write-card in
+    let counted = all-written (c .before .write .result) (w .last .1 .1 .0) (w .result .used) (record-stands t .2) (c .before .write .ensures) (c .if2 .taken) in
+    outcome.written refl (filled (carded t) .fill .ensures .0) (accepted t) (rw counted (record-stands t .0)) (counted ∙ record-stands t .1)
 
 same-length-6 : tie.Need-same-length-6
 same-length-6 c = search needs
@@ -120,9 +123,9 @@ make-card-spec =
     same-length-3
     returns-2
     enum-told-2
-    slice-reshare-prefix-write-all
-    slice-aggregate-write-all
-    write-all-requires
+    slice-reshare-prefix-write
+    slice-aggregate-write
+    write-requires
     same-length-4
     same-length-5
     returns-3

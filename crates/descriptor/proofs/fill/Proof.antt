@@ -33,7 +33,7 @@ module _ (c : tie.After-read Inv-loop μ-loop) where
   within =
       omega (
         arith,
-        c .read .ensures .0,
+        c .read .ensures .0 .0,
         c .read .kept .1 .0,
         mid-len (head c .loop .count) (length (head c .loop .buf)) (head c .loop .buf) (le-refl _),
         head c .loop .inv .0,

@@ -6,6 +6,7 @@ use lib.ListN.{length}
 use lib.Seq.{length-take-le}
 use Rattle.reporter.proofs.Putting.{PutAt, last-at}
 use Rattle.report.specs.State as state
+use Rattle.descriptor.proofs.Written.{all-written}
 use Rattle.refusal.specs.Number.{number}
 use Rattle.reporter.specs.Calls.{lastLines}
 use borrow.Author.Needs.{needs}
@@ -20,29 +21,37 @@ placed :
     (c .before .before .before .before .finish .last .1 .1 .1 .0)
 placed c = let e = c .before .before .before .before .finish .ensures in last-at _ _ _ _ (sym (c .put .given .1) ∙ e .0) (e .1)
 
+-- all of them were written
+counted : (c : tie.After-struct-known) → c .before .before .write .result .count ≡ c .before .before .before .before .before .put .given .0 .0
+counted c =
+    all-written (c .before .before .write .result) (c .before .before .before .before .before .before .before .before .before .finish .last .1 .1 .1 .0) (c .before .before .before .before .before .put .given .0 .0) (placed (c .before .before .before .before .before) .within) (c .before .before .write .ensures) (c .before .if1 .taken)
+
 finish-requires : tie.Need-finish-requires
 finish-requires c κs = search needs
 
 enum-known-put : tie.Need-enum-known-put
 enum-known-put c = search needs
 
-slice-reshare-prefix-write-all : tie.Need-slice-reshare-prefix-write-all
-slice-reshare-prefix-write-all c = placed (c .before) .within
+slice-reshare-prefix-write : tie.Need-slice-reshare-prefix-write
+slice-reshare-prefix-write c = placed (c .before) .within
 
-slice-aggregate-write-all : tie.Need-slice-aggregate-write-all
-slice-aggregate-write-all c = sym (length-take-le _ _ (placed (c .before .before) .within))
+slice-aggregate-write : tie.Need-slice-aggregate-write
+slice-aggregate-write c = sym (length-take-le _ _ (placed (c .before .before) .within))
 
-write-all-requires : tie.Need-write-all-requires
-write-all-requires c κs = search needs
+write-requires : tie.Need-write-requires
+write-requires c κs = search needs
 
-add-t13 : tie.Need-add-t13
-add-t13 c = let u = c .before .before .before .before .before in omega (arith, placed u .within, u .before .before .before .before .finish .kept .1 .1 .1 .0, u .before .before .before .before .before .before .before .before .pre .0, u .before .before .before .before .before .before .before .before .pre .1)
+add-t14 : tie.Need-add-t14
+add-t14 c =
+    let u = c .before .before .before .before .before in
+    omega (arith, counted c, placed u .within, u .before .before .before .before .finish .kept .1 .1 .1 .0, u .before .before .before .before .before .before .before .before .pre .0, u .before .before .before .before .before .before .before .before .pre .1)
 
 same-length : tie.Need-same-length
 same-length c = search needs
 
 returns : tie.Need-returns
-returns c = state.written refl refl (ap (λ n. c .before .before .before .before .before .before .before .before .before .before .before .before .before .args .s .written + n) (placed (c .before .before .before .before .before) .place ∙ omega arith))
+returns c =
+    state.written refl refl (ap (λ n. c .before .before .before .before .before .before .before .before .before .before .before .before .before .args .s .written + n) (counted c ∙ placed (c .before .before .before .before .before) .place ∙ omega arith))
 
 enum-told : tie.Need-enum-told
 enum-told c = search needs
@@ -65,10 +74,10 @@ close-spec =
     (tie.spec
     finish-requires
     enum-known-put
-    slice-reshare-prefix-write-all
-    slice-aggregate-write-all
-    write-all-requires
-    add-t13
+    slice-reshare-prefix-write
+    slice-aggregate-write
+    write-requires
+    add-t14
     same-length
     returns
     enum-told

@@ -4,6 +4,8 @@ use mathlib.Core.Path.{_≡_, refl, sym, _∙_, ap}
 use native.Mathlib.Omega.{arith}
 use lib.ListN.{length, drop}
 use lib.Seq.{length-take-le}
+use borrow.Author.Tests.{not-false}
+use Rattle.descriptor.proofs.Written.{all-written}
 use Rattle.refusal.specs.Number.{number}
 use Rattle.refusal.proofs.Distinct.{refused-some}
 use Rattle.reporter.specs.Progress.{fed}
@@ -48,6 +50,12 @@ module _ (c : tie.After-feed Inv-loop μ-loop) where
   taken-within : head c .loop .next + c .feed .result .taken ≤ length (start (head c) .args .chunk .now)
   taken-within = Passing.taken-within _ _ _ _ _ _ (head c .loop .inv .0) more _ size _ _ feeds kept
 
+-- what was written is what the call of feed put into the buffer
+counted : (c : tie.After-struct-known2 Inv-loop μ-loop) → c .before .before .before .before .write .result .count ≡ c .before .before .before .before .before .before .before .before .feed .result .used
+counted c =
+    let f = c .before .before .before .before .before .before .before .before .feed in
+    all-written (c .before .before .before .before .write .result) (f .last .1 .1 .0) (f .result .used) (used-within (c .before .before .before .before .before .before .before .before)) (c .before .before .before .before .write .ensures) (not-false _ (c .before .before .if1 .left))
+
 loop-holds : tie.Need-loop-holds Inv-loop μ-loop
 loop-holds c = (Passing.along-begin _ _ _ (c .before .before .before .pre .0), refl)
 
@@ -63,55 +71,55 @@ part-feed-end c = search needs
 feed-requires : tie.Need-feed-requires Inv-loop μ-loop
 feed-requires c κs = search needs
 
-slice-reshare-prefix-write-all : tie.Need-slice-reshare-prefix-write-all Inv-loop μ-loop
-slice-reshare-prefix-write-all c = used-within (c .before .before)
+slice-reshare-prefix-write : tie.Need-slice-reshare-prefix-write Inv-loop μ-loop
+slice-reshare-prefix-write c = used-within (c .before .before)
 
-slice-aggregate-write-all : tie.Need-slice-aggregate-write-all Inv-loop μ-loop
-slice-aggregate-write-all c = sym (length-take-le _ _ (used-within (c .before .before .before)))
+slice-aggregate-write : tie.Need-slice-aggregate-write Inv-loop μ-loop
+slice-aggregate-write c = sym (length-take-le _ _ (used-within (c .before .before .before)))
 
-write-all-requires : tie.Need-write-all-requires Inv-loop μ-loop
-write-all-requires c κs = search needs
+write-requires : tie.Need-write-requires Inv-loop μ-loop
+write-requires c κs = search needs
 
 same-length : tie.Need-same-length Inv-loop μ-loop
-same-length c = let f = c .before .before .before .before .before .before in kept f ∙ head f .loop .inv .1
+same-length c = let f = c .before .before .before .before .before .before .before in kept f ∙ head f .loop .inv .1
 
 returns : tie.Need-returns Inv-loop μ-loop
 returns c = unwritten refl
 
 add-next : tie.Need-add-next Inv-loop μ-loop
-add-next c = omega (arith, taken-within (c .before .before .before .before .before .before .before))
+add-next c = let f = c .before .before .before .before .before .before .before .before in omega (arith, taken-within f, start (head f) .good)
 
 add-written : tie.Need-add-written Inv-loop μ-loop
 add-written c =
-    let f = c .before .before .before .before .before .before .before in
+    let f = c .before .before .before .before .before .before .before .before in
     let s = Passing.sound _ _ _ _ _ _ (head f .loop .inv .0) (more f) _ (size f) _ _ (feeds f) (kept f) in
-    omega (arith, s .few, f .feed .ok)
+    omega (arith, s .few, f .feed .ok, counted c)
 
 enum-told : tie.Need-enum-told Inv-loop μ-loop
 enum-told c = search needs
 
 same-length-2 : tie.Need-same-length-2 Inv-loop μ-loop
-same-length-2 c = let f = c .before .before .before .before .before .before .before .before .before in kept f ∙ head f .loop .inv .1
+same-length-2 c = let f = c .before .before .before .before .before .before .before .before .before .before in kept f ∙ head f .loop .inv .1
 
 returns-2 : tie.Need-returns-2 Inv-loop μ-loop
 returns-2 c =
-    let f = c .before .before .before .before .before .before .before .before .before in
+    let f = c .before .before .before .before .before .before .before .before .before .before in
     let n = refused-some (c .enum-told .given .1) in
-    refused (Passing.refused _ _ _ _ _ _ (head f .loop .inv .0) (more f) _ (size f) _ _ (feeds f) (kept f) _ n refl refl refl) refl n refl
+    refused (Passing.refused _ _ _ _ _ _ (head f .loop .inv .0) (more f) _ (size f) _ _ (feeds f) (kept f) _ n refl refl (ap (λ n. head f .loop .written + n) (counted (c .before .before)))) refl n refl
 
 enum-told-2 : tie.Need-enum-told-2 Inv-loop μ-loop
 enum-told-2 c = search needs
 
 loop-less : tie.Need-loop-less Inv-loop μ-loop
 loop-less c =
-    let f = c .before .before .before .before .before .before .before .before .before in
+    let f = c .before .before .before .before .before .before .before .before .before .before in
     let m = Passing.moves _ _ _ _ _ _ (head f .loop .inv .0) (more f) _ (size f) _ _ (feeds f) (kept f) (ap number (c .enum-told2 .given .1)) in
     omega (arith, more f, taken-within f)
 
 loop-again : tie.Need-loop-again Inv-loop μ-loop
 loop-again c =
-    let f = c .before .before .before .before .before .before .before .before .before in (
-      Passing.on _ _ _ _ _ _ (head f .loop .inv .0) (more f) _ (size f) _ _ (feeds f) (kept f) (ap number (c .enum-told2 .given .1)),
+    let f = c .before .before .before .before .before .before .before .before .before .before in (
+      rw (counted (c .before .before)) (Passing.on _ _ _ _ _ _ (head f .loop .inv .0) (more f) _ (size f) _ _ (feeds f) (kept f) (ap number (c .enum-told2 .given .1))),
       kept f ∙ head f .loop .inv .1,
     )
 
@@ -132,9 +140,9 @@ pass-spec =
     part-feed-start
     part-feed-end
     feed-requires
-    slice-reshare-prefix-write-all
-    slice-aggregate-write-all
-    write-all-requires
+    slice-reshare-prefix-write
+    slice-aggregate-write
+    write-requires
     same-length
     returns
     add-next

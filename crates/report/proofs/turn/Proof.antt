@@ -25,7 +25,7 @@ same-length-2 c = search needs
 returns-2 : tie.Need-returns-2
 returns-2 c =
     let got = c .before .before .before .before .before .before .before in
-    ends _ _ _ _ (got .before .before .before .before .pre .0) (got .read .ensures .0) (omega arith) refl
+    ends _ _ _ _ (got .before .before .before .before .pre .0) (got .read .ensures .0 .0) (omega arith) refl
 
 slice-reshare-prefix-pass : tie.Need-slice-reshare-prefix-pass
 slice-reshare-prefix-pass c = search needs
@@ -46,7 +46,7 @@ returns-3 : tie.Need-returns-3
 returns-3 c =
     let got = c .before .before .before .before .before .before .before .before .before .before .before .before in
     let pre = got .before .before .before .before .pre in
-    passes _ _ _ _ (pre .0) (got .read .ensures .0) (omega arith) (pre .1) (c .before .before .pass .ensures)
+    passes _ _ _ _ (pre .0) (got .read .ensures .0 .0) (omega arith) (pre .1) (c .before .before .pass .ensures)
 
 pub turn-spec : {M : Type 1} → statement M
 turn-spec =
