@@ -24,25 +24,25 @@ use Rattle.report.specs.declared.Status.{Status}
 use Rattle.report.specs.declared.Status.the-variants.{More, Ended, Unreadable, Unwritable}
 use Rattle.report.specs.declared.State.{State}
 use Rattle.report.specs.declared.Outcome.{Outcome}
-use Rattle.report.specs.State.{bufferSize, Sound, Took, Passed, behindFront, Ready, Goes, on, over, Turned, Standing, Closed, Over}
+use Rattle.report.specs.State.{bufferSize, Sound, Took, Passed, behindFront, Ready, Goes, on, over, Turned, Standing, Stands, Closed, Over}
 use Rattle.report.specs.State as state
 
 -- a run's count and state, put in other words
 sent-as :
-    {refusal read written : ℕ} {p : Progress} (s : State)
-    → Sent refusal p read written
+    {input : List ℕ} {refusal read written : ℕ} {p : Progress} (s : State)
+    → Sent input refusal p read written
     → number (s .verdict) ≡ refusal
     → s .progress ≡ p
     → s .read ≡ read
     → s .written ≡ written
-    → Sent (number (s .verdict)) (s .progress) (s .read) (s .written)
+    → Sent input (number (s .verdict)) (s .progress) (s .read) (s .written)
 sent-as s q v e r w = rw (v, e, r, w) q
 
 module _ (chunk : List ℕ) (b : Begun) (q : Begins chunk b) where
   -- the card is refused
   pub opened-refused :
       (number (b .verdict) ≡ 0 → ⊥)
-      → Standing (record { progress = b .progress; verdict = b .verdict; read = length chunk; written = 0; status = Ended })
+      → Standing chunk (record { progress = b .progress; verdict = b .verdict; read = length chunk; written = 0; status = Ended })
   opened-refused n = state.ended refl (omega arith) (sent-refused chunk b q n)
 
   -- the card is read, and what stands behind it was passed
@@ -53,11 +53,11 @@ module _ (chunk : List ℕ) (b : Begun) (q : Begins chunk b) where
     first-sent :
         Took (b .progress) 0 (drop (b .taken) chunk) r
         → r .read ≡ length chunk
-        → Sent (number (r .verdict)) (r .progress) (r .read) (r .written)
+        → Sent chunk (number (r .verdict)) (r .progress) (r .read) (r .written)
     first-sent t l =
         sent-as r (sent-first chunk b q accepted) (t .verdict) (t .progress) l (omega (arith, t .written))
 
-    pub opened : Passed first (drop (b .taken) chunk) r → Standing r
+    pub opened : Passed first (drop (b .taken) chunk) r → Standing chunk r
     opened (state.unwritten u) = state.unwritten u
     opened (state.refused t l n u) = state.ended u (t .sound .few) (first-sent t l)
     opened (state.taken t l z u) =
@@ -83,21 +83,23 @@ module _ (s r : State) (input : List ℕ) (ready : Ready s) where
       (heard-later (λ used. true) 0 (s .progress) (take n input)
       ∙ omega (arith, heard-all 0 (s .progress) (take n input) (sym (t .verdict) ∙ z), length-take-le n input l))
 
+  -- the bytes of the chunk, the front of the buffer, join those that were read before
   pub turned :
-      cardBytes ≤ s .read
-      → Sent (number (s .verdict)) (s .progress) (s .read) (s .written)
+      (before : List ℕ)
+      → cardBytes ≤ s .read
+      → Sent before (number (s .verdict)) (s .progress) (s .read) (s .written)
       → Turned s r input
-      → Standing r
-  turned enough q (state.unread u e w) = state.unread u (rw (e, w) (sent-partly _ _ _ _ q enough))
-  turned enough q (state.unwritten u) = state.unwritten u
-  turned enough q (state.came n l e t g) = go g
+      → Stands r
+  turned before enough q (state.unread u e w) = (before, state.unread u (rw (e, w) (sent-partly _ _ _ _ _ q enough)))
+  turned before enough q (state.unwritten u) = (before, state.unwritten u)
+  turned before enough q (state.came n l e t g) = (before ++ take n input, go g)
     where
-      sent : Sent (number (r .verdict)) (r .progress) (r .read) (r .written)
+      sent : Sent (before ++ take n input) (number (r .verdict)) (r .progress) (r .read) (r .written)
       sent =
-          sent-as r (sent-more _ _ _ (take n input) (rw (ready .accepted) at q) enough) (t .verdict) (t .progress)
+          sent-as r (sent-more _ _ _ _ (take n input) (rw (ready .accepted) at q) enough) (t .verdict) (t .progress)
           (omega (arith, length-take-le n input l)) (t .written)
 
-      go : Goes n r → Standing r
+      go : Goes n r → Standing (before ++ take n input) r
       go (on m z u) =
           state.more u (record { sound = t .sound; accepted = z; near = omega (arith, ready .near, risen n l t z) }) (omega arith) sent
       go (over m u) = state.ended u (t .sound .few) sent
@@ -118,9 +120,13 @@ nothing input =
     record { input = input; said = []; all-read = refl; all-written = refl; lines = λ rest. (output (input ++ rest), refl) }
 
 -- the end of a run
-pub closed : (s : State) (r : Outcome) → Sent (number (s .verdict)) (s .progress) (s .read) (s .written) → Closed s r → Over r
-closed s r q (state.written u e w) = state.whole u (rw (e, w) (sent-over _ _ _ _ q))
-closed s r q (state.unwritten u) = state.unwritten u
+pub closed :
+    (input : List ℕ) (s : State) (r : Outcome)
+    → Sent input (number (s .verdict)) (s .progress) (s .read) (s .written)
+    → Closed s r
+    → Over r
+closed input s r q (state.written u e w) = state.whole u (rw (e, w) (sent-over _ _ _ _ _ q))
+closed input s r q (state.unwritten u) = state.unwritten u
 
 -- A chunk that was read: where it has no bytes, and where it was passed.
 module _ (s r : State) (input : List ℕ) (n : ℕ) (ready : Ready s) (within : n ≤ length input) where
@@ -142,32 +148,32 @@ module _ (s r : State) (input : List ℕ) (n : ℕ) (ready : Ready s) (within : 
   passes l m (state.refused t e z u) = state.came n within e t (over (inr z) u)
 
 -- What a standing tells, by its status.
-pub record Reading (s : State) : Type 0 where
+pub record Reading (input : List ℕ) (s : State) : Type 0 where
   pub ready : Ready s
   pub enough : cardBytes ≤ s .read
-  pub sent : Sent (number (s .verdict)) (s .progress) (s .read) (s .written)
+  pub sent : Sent input (number (s .verdict)) (s .progress) (s .read) (s .written)
 
-pub reading : (s : State) → s .status ≡ More → Standing s → Reading s
+pub reading : {input : List ℕ} (s : State) → s .status ≡ More → Standing input s → Reading input s
 reading s m (state.more u r l q) = record { ready = r; enough = l; sent = q }
 reading s m (state.ended u f q) = let z : _≡_ {A = ℕ} 0 1 = cc in absurd (omega arith)
 reading s m (state.unread u q) = let z : _≡_ {A = ℕ} 0 1 = cc in absurd (omega arith)
 reading s m (state.unwritten u) = let z : _≡_ {A = ℕ} 0 1 = cc in absurd (omega arith)
 
-pub record Ending (s : State) : Type 0 where
+pub record Ending (input : List ℕ) (s : State) : Type 0 where
   pub few : s .written ≤ bufferSize * s .progress .matcher .now .at
-  pub sent : Sent (number (s .verdict)) (s .progress) (s .read) (s .written)
+  pub sent : Sent input (number (s .verdict)) (s .progress) (s .read) (s .written)
 
-pub ending : (s : State) → s .status ≡ Ended → Standing s → Ending s
+pub ending : {input : List ℕ} (s : State) → s .status ≡ Ended → Standing input s → Ending input s
 ending s m (state.more u r l q) = let z : _≡_ {A = ℕ} 0 1 = cc in absurd (omega arith)
 ending s m (state.ended u f q) = record { few = f; sent = q }
 ending s m (state.unread u q) = let z : _≡_ {A = ℕ} 0 1 = cc in absurd (omega arith)
 ending s m (state.unwritten u) = let z : _≡_ {A = ℕ} 0 1 = cc in absurd (omega arith)
 
 pub broken :
-    (s : State)
+    {input : List ℕ} (s : State)
     → (s .status ≡ More → ⊥)
     → (s .status ≡ Ended → ⊥)
-    → Standing s
+    → Standing input s
     → Over (record { read = s .read; written = s .written; status = s .status })
 broken s n m (state.more u r l q) = absurd (n u)
 broken s n m (state.ended u f q) = absurd (m u)

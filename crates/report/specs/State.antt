@@ -79,21 +79,25 @@ pub data Turned (s r : State) (input : List ℕ) : Type 0 where
       → Goes n r
       → Turned s r input
 
--- Where a run stands: what was written is the output of what was read, as far as it is settled.
-pub data Standing (s : State) : Type 0 where
+-- Where a run stands that has read `input`: what was written is the output of it, as far as that is settled.
+pub data Standing (input : List ℕ) (s : State) : Type 0 where
   more :
       s .status ≡ More
       → Ready s
       → cardBytes ≤ s .read
-      → Sent (number (s .verdict)) (s .progress) (s .read) (s .written)
-      → Standing s
+      → Sent input (number (s .verdict)) (s .progress) (s .read) (s .written)
+      → Standing input s
   ended :
       s .status ≡ Ended
       → s .written ≤ bufferSize * s .progress .matcher .now .at
-      → Sent (number (s .verdict)) (s .progress) (s .read) (s .written)
-      → Standing s
-  unread : s .status ≡ Unreadable → Partly (s .read) (s .written) → Standing s
-  unwritten : s .status ≡ Unwritable → Standing s
+      → Sent input (number (s .verdict)) (s .progress) (s .read) (s .written)
+      → Standing input s
+  unread : s .status ≡ Unreadable → Partly (s .read) (s .written) → Standing input s
+  unwritten : s .status ≡ Unwritable → Standing input s
+
+-- Behind several chunks, each of which has taken the place of the one before: there is an input that was read.
+abbrev pub Stands : State → Type 0
+Stands s = (input : List ℕ) × Standing input s
 
 -- The last lines were written behind what was, or could not be.
 pub data Closed (s : State) (r : Outcome) : Type 0 where

@@ -7,7 +7,7 @@ ghost use lib.ListN.{length};
 ghost use Rattle.descriptor.specs.Reads.{Reads};
 ghost use Rattle.reporter.specs.Reporter.{cardBytes};
 ghost use Rattle.report.specs.declared.Status.the-variants.{More};
-ghost use Rattle.report.specs.State.{bufferSize, behindFront, Sound, Passed, Ready, Turned, Standing, Closed, Over};
+ghost use Rattle.report.specs.State.{bufferSize, behindFront, Sound, Passed, Ready, Turned, Standing, Stands, Closed, Over};
 use descriptor::Got;
 use libc::STDIN_FILENO;
 use libc::STDOUT_FILENO;
@@ -107,7 +107,7 @@ fn behind_front(n: usize) -> Status
 // Reads the card, on the bytes on which it is judged, and writes what those behind it bring.
 fn open(front: &[u8], out: &mut [u8]) -> State
     requires { ⌜ (length (now front) ≤ cardBytes) × (bufferSize ≡ length (now out)) ⌝ }
-    ensures { λ r. ⌜ Standing r ⌝ }
+    ensures { λ r. ⌜ Standing (now (front .entry)) r ⌝ }
 {
     let begun = begin(front);
     let verdict = begun.verdict;
@@ -161,8 +161,8 @@ fn turn(s: State, input: &mut [u8], out: &mut [u8]) -> State
 
 // Reads chunk after chunk. It ends, since each chunk brings t nearer to its limit.
 fn read_on(first: State, input: &mut [u8], out: &mut [u8]) -> State
-    requires { ⌜ Standing first × (bufferSize ≡ length (now out)) ⌝ }
-    ensures { λ r. ⌜ Standing r × (r .status ≡ More → ⊥) ⌝ }
+    requires { ⌜ Stands first × (bufferSize ≡ length (now out)) ⌝ }
+    ensures { λ r. ⌜ Stands r × (r .status ≡ More → ⊥) ⌝ }
 {
     let mut s = first;
     let mut status = s.status;

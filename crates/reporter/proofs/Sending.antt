@@ -112,10 +112,9 @@ module _ (chunk : List ℕ) (b : Begun) (q : Begins chunk b) where
       rw (q .verdict, q .progress, q .taken, front-of chunk rest enough, within, fresh-origin (readSignature (front chunk)))
 
   -- the card is refused: nothing was written
-  pub sent-refused : (number (b .verdict) ≡ 0 → ⊥) → Sent (number (b .verdict)) (b .progress) (length chunk) 0
+  pub sent-refused : (number (b .verdict) ≡ 0 → ⊥) → Sent chunk (number (b .verdict)) (b .progress) (length chunk) 0
   sent-refused n =
       record {
-        input = chunk;
         said = [];
         all-read = refl;
         all-written = refl;
@@ -128,10 +127,9 @@ module _ (chunk : List ℕ) (b : Begun) (q : Begins chunk b) where
   pub sent-first :
       number (b .verdict) ≡ 0
       → let h = heard (b .progress) (drop (b .taken) chunk) in
-      Sent (h .refusal) (h .progress) (length chunk) (length (h .lines))
+      Sent chunk (h .refusal) (h .progress) (length chunk) (length (h .lines))
   sent-first z =
       record {
-        input = chunk;
         said = heard (b .progress) (drop (b .taken) chunk) .lines;
         all-read = refl;
         all-written = refl;
@@ -141,14 +139,13 @@ module _ (chunk : List ℕ) (b : Begun) (q : Begins chunk b) where
 
 -- a chunk more
 pub sent-more :
-    (p : Progress) (read written : ℕ) (chunk : List ℕ)
-    → Sent 0 p read written
+    (input : List ℕ) (p : Progress) (read written : ℕ) (chunk : List ℕ)
+    → Sent input 0 p read written
     → cardBytes ≤ read
     → let h = heard p chunk in
-    Sent (h .refusal) (h .progress) (read + length chunk) (written + length (h .lines))
-sent-more p read written chunk s l =
+    Sent (input ++ chunk) (h .refusal) (h .progress) (read + length chunk) (written + length (h .lines))
+sent-more input p read written chunk s l =
     record {
-      input = s .input ++ chunk;
       said = s .said ++ heard p chunk .lines;
       all-read = rw (length-append, s .all-read);
       all-written = rw (length-append, s .all-written);
@@ -163,23 +160,27 @@ unfolding pending lastLines transcript
 last-pending refusal p = refl
 
 pub sent-over :
-    (refusal : ℕ) (p : Progress) (read written : ℕ)
-    → Sent refusal p read written
+    (input : List ℕ) (refusal : ℕ) (p : Progress) (read written : ℕ)
+    → Sent input refusal p read written
     → Whole read (written + length (lastLines refusal (p .matcher .now .at) (p .total)))
-sent-over refusal p read written s =
+sent-over input refusal p read written s =
     record {
-      input = s .input;
+      input = input;
       all-read = s .all-read;
       all-written =
           rw (s .all-written, ← length-append (s .said))
-          (ap length (ap (λ l. s .said ++ l) (sym (last-pending refusal p)) ∙ sym (s .lines [] (inr refl)) ∙ ap output (append-nil (s .input))));
+          (ap length (ap (λ l. s .said ++ l) (sym (last-pending refusal p)) ∙ sym (s .lines [] (inr refl)) ∙ ap output (append-nil input)));
     }
 
 -- a run that comes no further
-pub sent-partly : (refusal : ℕ) (p : Progress) (read written : ℕ) → Sent refusal p read written → cardBytes ≤ read → Partly read written
-sent-partly refusal p read written s l =
+pub sent-partly :
+    (input : List ℕ) (refusal : ℕ) (p : Progress) (read written : ℕ)
+    → Sent input refusal p read written
+    → cardBytes ≤ read
+    → Partly read written
+sent-partly input refusal p read written s l =
     record {
-      input = s .input;
+      input = input;
       said = s .said;
       all-read = s .all-read;
       all-written = s .all-written;

@@ -8,10 +8,9 @@ use Rattle.reporter.specs.declared.Progress.{Progress}
 use Rattle.reporter.specs.Reporter.{cardBytes, output}
 use Rattle.reporter.specs.Progress.{pending}
 
--- `input` is what was read, so many bytes, and `said` what was written, so many bytes. Whatever is still to come (nothing, where the input ended
+-- `input` was read, so many bytes, and `said` is what was written, so many bytes. Whatever is still to come (nothing, where the input ended
 -- before the bytes on which a card is judged): the output is what was written, and then what is still to be printed.
-pub record Sent (refusal : ℕ) (p : Progress) (read written : ℕ) : Type 0 where
-  pub input : List ℕ
+pub record Sent (input : List ℕ) (refusal : ℕ) (p : Progress) (read written : ℕ) : Type 0 where
   pub said : List ℕ
   pub all-read : read ≡ length input
   pub all-written : written ≡ length said

@@ -3,7 +3,7 @@ use Prim.Native.Nat.{_^_, _<_}
 use mathlib.Core.Path.{_≡_, refl, sym, _∙_}
 use native.Mathlib.Omega.{arith}
 use lib.ListN.{length}
-use Rattle.report.specs.State.{Standing}
+use Rattle.report.specs.State.{Stands}
 use Rattle.report.specs.State as state
 use Rattle.report.proofs.Standings.{distance, turned, nearer, reading}
 use mathlib.Core.List.{[], _∷_}
@@ -14,7 +14,7 @@ use Rattle.report.proofs.read_on.Statement.{statement}
 use Rattle.report.proofs.read_on.Tie as tie
 
 abbrev Inv-loop : tie.InvT-loop
-Inv-loop input₀ out₀ s₀ status₀ input out s status = Standing s × (status ≡ s .status) × (length input ≡ length input₀) × (length out ≡ length out₀) × (s .progress .matcher .now .at < 2 ^ 32)
+Inv-loop input₀ out₀ s₀ status₀ input out s status = Stands s × (status ≡ s .status) × (length input ≡ length input₀) × (length out ≡ length out₀) × (s .progress .matcher .now .at < 2 ^ 32)
 
 abbrev μ-loop : tie.MeasureT-loop
 μ-loop input₀ out₀ s₀ status₀ input out s status = distance status (s .progress .matcher .now .at)
@@ -29,22 +29,22 @@ turn-requires : tie.Need-turn-requires Inv-loop μ-loop
 turn-requires c κs =
     let l = c .before .before .before .before in
     let m = sym (l .loop .inv .1) ∙ c .before .before .enum-told .given .1 in
-    (reading _ m (l .loop .inv .0) .ready, m, l .before .before .before .pre .1 ∙ sym (l .loop .inv .3))
+    (reading _ m (l .loop .inv .0 .1) .ready, m, l .before .before .before .pre .1 ∙ sym (l .loop .inv .3))
 
 loop-less : tie.Need-loop-less Inv-loop μ-loop
 loop-less c =
     let l = c .before .before .before .before .before .before .before .before .before in
     let told = c .before .before .before .before .before .before .before .enum-told .given .1 in
-    let q = reading _ (sym (l .loop .inv .1) ∙ told) (l .loop .inv .0) in
+    let q = reading _ (sym (l .loop .inv .1) ∙ told) (l .loop .inv .0 .1) in
     rw told (nearer _ _ _ (q .ready) (l .loop .inv .4) (c .before .before .before .before .turn .ensures))
 
 loop-again : tie.Need-loop-again Inv-loop μ-loop
 loop-again c =
     let l = c .before .before .before .before .before .before .before .before .before in
     let told = c .before .before .before .before .before .before .before .enum-told .given .1 in
-    let q = reading _ (sym (l .loop .inv .1) ∙ told) (l .loop .inv .0) in
+    let q = reading _ (sym (l .loop .inv .1) ∙ told) (l .loop .inv .0 .1) in
     let r = c .before .before .before .before .turn in (
-      turned _ _ _ (q .ready) (q .enough) (q .sent) (r .ensures),
+      turned _ _ _ (q .ready) _ (q .enough) (q .sent) (r .ensures),
       refl,
       r .kept .1 .0 ∙ l .loop .inv .2,
       r .kept .1 .1 .0 ∙ l .loop .inv .3,

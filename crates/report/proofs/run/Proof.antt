@@ -40,7 +40,7 @@ enum-told c = search needs
 close-requires : tie.Need-close-requires
 close-requires c κs =
     let r = c .before .before .before .before .before .before .before .read-on in (
-      ending _ (c .before .enum-told .given .1) (r .ensures .0) .few,
+      ending _ (c .before .enum-told .given .1) (r .ensures .0 .1) .few,
       c .before .before .before .before .before .before .before .before .before .before .before .before .before .before .before .before .before .before .before .before .before .before .before .pre .1 ∙ sym (r .kept .1 .1 .0 ∙ c .before .before .before .before .before .before .before .before .before .before .before .before .«open» .kept .1 .0),
     )
 
@@ -53,7 +53,7 @@ same-length-3 c = search needs
 returns-2 : tie.Need-returns-2
 returns-2 c =
     let r = c .before .before .before .before .before .before .before .before .before .before .read-on in
-    closed _ _ (ending _ (c .before .before .before .before .enum-told .given .1) (r .ensures .0) .sent) (c .before .before .close .ensures)
+    closed _ _ _ (ending _ (c .before .before .before .before .enum-told .given .1) (r .ensures .0 .1) .sent) (c .before .before .close .ensures)
 
 same-length-4 : tie.Need-same-length-4
 same-length-4 c = search needs
@@ -64,7 +64,7 @@ same-length-5 c = search needs
 returns-3 : tie.Need-returns-3
 returns-3 c =
     let r = c .before .before .before .before .before .read-on .ensures in
-    broken _ (r .1) (λ e. miss (0 ∷ 2 ∷ 3 ∷ []) 1 tt (rw e at (c .match .keys2))) (r .0)
+    broken _ (r .1) (λ e. miss (0 ∷ 2 ∷ 3 ∷ []) 1 tt (rw e at (c .match .keys2))) (r .0 .1)
 
 pub run-spec : {M : Type 1} → statement M
 run-spec =
