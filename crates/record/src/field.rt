@@ -36,7 +36,7 @@ fn pair_at(buf: &[u8], at: usize) -> u32
 }
 
 // The number in the 2 bytes from `at` on.
-pub fn half_at(buf: &[u8], at: usize) -> Field
+pub(crate) fn half_at(buf: &[u8], at: usize) -> Field
     ensures { λ r. ⌜ r ≡ halfFieldAt (now (buf .entry)) at ⌝ }
 {
     if buf.len() < 2 {
@@ -49,7 +49,7 @@ pub fn half_at(buf: &[u8], at: usize) -> Field
 }
 
 // The number in the 4 bytes from `at` on.
-pub fn word_at(buf: &[u8], at: usize) -> Field
+pub(crate) fn word_at(buf: &[u8], at: usize) -> Field
     ensures { λ r. ⌜ r ≡ fieldAt (now (buf .entry)) at ⌝ }
 {
     if buf.len() < 4 {
@@ -62,7 +62,7 @@ pub fn word_at(buf: &[u8], at: usize) -> Field
 }
 
 // The number in the 4 bytes from `at` on, 0 where it is missing.
-pub fn number_at(buf: &[u8], at: usize) -> u32
+pub(crate) fn number_at(buf: &[u8], at: usize) -> u32
     ensures { λ r. ⌜ r ≡ wordAt (now (buf .entry)) at ⌝ }
 {
     let Field::Value(number) = word_at(buf, at) else {
@@ -72,7 +72,7 @@ pub fn number_at(buf: &[u8], at: usize) -> u32
 }
 
 // Writes a number's low 16 bits into the 2 bytes from `at` on.
-pub fn put_half(buf: &mut [u8], at: usize, value: u32)
+pub(crate) fn put_half(buf: &mut [u8], at: usize, value: u32)
     requires { ⌜ at + 2 ≤ length (now buf) ⌝ }
     ensures { λ _. ⌜ now (buf .exit) ≡ pasted (now (buf .entry)) at (half value) ⌝ }
 {
@@ -81,7 +81,7 @@ pub fn put_half(buf: &mut [u8], at: usize, value: u32)
 }
 
 // Writes a number into the 4 bytes from `at` on.
-pub fn put_word(buf: &mut [u8], at: usize, value: u32)
+pub(crate) fn put_word(buf: &mut [u8], at: usize, value: u32)
     requires { ⌜ at + 4 ≤ length (now buf) ⌝ }
     ensures { λ _. ⌜ now (buf .exit) ≡ stamped (now (buf .entry)) at (value ∷ []) ⌝ }
 {
@@ -90,14 +90,14 @@ pub fn put_word(buf: &mut [u8], at: usize, value: u32)
 }
 
 // A key is one field.
-pub fn put_key(buf: &mut [u8], at: usize, key: Key)
+pub(crate) fn put_key(buf: &mut [u8], at: usize, key: Key)
     requires { ⌜ at + 4 ≤ length (now buf) ⌝ }
     ensures { λ _. ⌜ now (buf .exit) ≡ stamped (now (buf .entry)) at (keyFields key) ⌝ }
 {
     put_word(buf, at, key.r);
 }
 
-pub fn key_at(buf: &[u8], at: usize) -> Key
+pub(crate) fn key_at(buf: &[u8], at: usize) -> Key
     ensures { λ key. ⌜ key ≡ keyAt (now (buf .entry)) at ⌝ }
 {
     Key {
@@ -106,14 +106,14 @@ pub fn key_at(buf: &[u8], at: usize) -> Key
 }
 
 // A fingerprint is one field.
-pub fn put_print(buf: &mut [u8], at: usize, print: Fingerprint)
+pub(crate) fn put_print(buf: &mut [u8], at: usize, print: Fingerprint)
     requires { ⌜ at + 4 ≤ length (now buf) ⌝ }
     ensures { λ _. ⌜ now (buf .exit) ≡ stamped (now (buf .entry)) at (printFields print) ⌝ }
 {
     put_word(buf, at, print.value);
 }
 
-pub fn print_at(buf: &[u8], at: usize) -> Fingerprint
+pub(crate) fn print_at(buf: &[u8], at: usize) -> Fingerprint
     ensures { λ print. ⌜ print ≡ printAt (now (buf .entry)) at ⌝ }
 {
     Fingerprint {
@@ -122,7 +122,7 @@ pub fn print_at(buf: &[u8], at: usize) -> Fingerprint
 }
 
 // Length and kind, before a record's fields.
-pub fn put_head(buf: &mut [u8], length: u32, kind: u32)
+pub(crate) fn put_head(buf: &mut [u8], length: u32, kind: u32)
     requires { ⌜ 6 ≤ lib.ListN.length (now buf) ⌝ }
     ensures { λ _. ⌜ now (buf .exit) ≡ pasted (now (buf .entry)) 0 (word length ++ half kind) ⌝ }
 {
@@ -131,7 +131,7 @@ pub fn put_head(buf: &mut [u8], length: u32, kind: u32)
 }
 
 // Reads the head of a record: 8, length under 2 (10), 9, length under the least of its kind (10).
-pub fn check_head(buf: &[u8], kind: u32, least: u32) -> Verdict
+pub(crate) fn check_head(buf: &[u8], kind: u32, least: u32) -> Verdict
     ensures { λ r. ⌜ number r ≡ headRefusal kind least (now (buf .entry)) ⌝ }
 {
     let Field::Value(length) = word_at(buf, 0) else {
@@ -156,7 +156,7 @@ pub fn check_head(buf: &[u8], kind: u32, least: u32) -> Verdict
 }
 
 // Whether two keys are equal.
-pub fn same_key(a: Key, b: Key) -> bool
+pub(crate) fn same_key(a: Key, b: Key) -> bool
     ensures { λ ok. ⌜ ok ≡ sameKey a b ⌝ }
 {
     a.r == b.r

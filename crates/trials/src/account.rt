@@ -67,7 +67,7 @@ fn mix_set(set: Progression, counts: bool, tally: &mut [u32]) {
 }
 
 // Takes an answer into the digest.
-pub fn mix_answer(answer: Answer, tally: &mut [u32]) {
+pub(crate) fn mix_answer(answer: Answer, tally: &mut [u32]) {
     let ring = answer.ring;
     mix(tally, answer.comparisons);
     mix(tally, answer.asides);
@@ -81,7 +81,7 @@ pub fn mix_answer(answer: Answer, tally: &mut [u32]) {
 }
 
 // The answer to the last byte of the stream so far.
-pub fn account(
+pub(crate) fn account(
     answer: Answer,
     stream: &[u8],
     pattern: &[u8],

@@ -1,19 +1,19 @@
 // Bytes at places, and places.
 
 // The byte at a place, 0 past the end.
-pub fn at(bytes: &[u8], i: usize) -> u8 {
+pub(crate) fn at(bytes: &[u8], i: usize) -> u8 {
     if i < bytes.len() { bytes[i] } else { 0 }
 }
 
 // Stores a byte, nothing past the end.
-pub fn put(bytes: &mut [u8], i: usize, byte: u8) {
+pub(crate) fn put(bytes: &mut [u8], i: usize, byte: u8) {
     if i < bytes.len() {
         bytes[i] = byte;
     }
 }
 
 // Stores a number in the four bytes from a place on, the lowest first.
-pub fn put_number(bytes: &mut [u8], i: usize, number: u32) {
+pub(crate) fn put_number(bytes: &mut [u8], i: usize, number: u32) {
     put(bytes, i, (number % 256) as u8);
     put(bytes, plus(i, 1), (number / 256 % 256) as u8);
     put(bytes, plus(i, 2), (number / 65536 % 256) as u8);
@@ -21,7 +21,7 @@ pub fn put_number(bytes: &mut [u8], i: usize, number: u32) {
 }
 
 // The first n bytes, all of them if there are fewer.
-pub fn front(bytes: &[u8], n: usize) -> &[u8] {
+pub(crate) fn front(bytes: &[u8], n: usize) -> &[u8] {
     if n <= bytes.len() {
         return &bytes[0..n];
     }
@@ -29,7 +29,7 @@ pub fn front(bytes: &[u8], n: usize) -> &[u8] {
 }
 
 // The bytes behind the first n, all of them if there are fewer.
-pub fn behind(bytes: &[u8], n: usize) -> &[u8] {
+pub(crate) fn behind(bytes: &[u8], n: usize) -> &[u8] {
     if n <= bytes.len() {
         return &bytes[n..];
     }
@@ -37,22 +37,22 @@ pub fn behind(bytes: &[u8], n: usize) -> &[u8] {
 }
 
 // The sum of two places; no trial comes near the end of the numbers.
-pub fn plus(a: usize, b: usize) -> usize {
+pub(crate) fn plus(a: usize, b: usize) -> usize {
     std::num::wrapping_add_usize(a, b)
 }
 
 // The difference of two places, 0 where the second is larger.
-pub fn minus(a: usize, b: usize) -> usize {
+pub(crate) fn minus(a: usize, b: usize) -> usize {
     if b <= a { a - b } else { 0 }
 }
 
 // A place as a number of 32 bits.
-pub fn short(n: usize) -> u32 {
+pub(crate) fn short(n: usize) -> u32 {
     (n % 4294967296) as u32
 }
 
 // Copies n bytes from a place to a place.
-pub fn copy(from: &[u8], from_at: usize, bytes: &mut [u8], to_at: usize, n: usize) {
+pub(crate) fn copy(from: &[u8], from_at: usize, bytes: &mut [u8], to_at: usize, n: usize) {
     let mut i: usize = 0;
     while i < n {
         put(bytes, plus(to_at, i), at(from, plus(from_at, i)));
@@ -61,7 +61,7 @@ pub fn copy(from: &[u8], from_at: usize, bytes: &mut [u8], to_at: usize, n: usiz
 }
 
 // Whether every byte is this one.
-pub fn all_are(bytes: &[u8], byte: u8) -> bool {
+pub(crate) fn all_are(bytes: &[u8], byte: u8) -> bool {
     let mut i: usize = 0;
     while i < bytes.len() {
         if bytes[i] != byte {
@@ -73,7 +73,7 @@ pub fn all_are(bytes: &[u8], byte: u8) -> bool {
 }
 
 // Whether the bytes from a place on differ from a block.
-pub fn differs(bytes: &[u8], from: usize, block: &[u8]) -> bool {
+pub(crate) fn differs(bytes: &[u8], from: usize, block: &[u8]) -> bool {
     let mut i: usize = 0;
     while i < block.len() {
         if at(bytes, plus(from, i)) != block[i] {

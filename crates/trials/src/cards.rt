@@ -9,12 +9,12 @@ use signature::Builder;
 use signature::Signature;
 
 // Whether a call was accepted.
-pub fn accepted(verdict: Verdict) -> bool {
+pub(crate) fn accepted(verdict: Verdict) -> bool {
     verdict.number() == 0
 }
 
 // The card of a pattern, by the maker's calls, none of which is refused.
-pub fn make(pattern: &[u8], key: u32, tally: &mut [u32]) -> Signature {
+pub(crate) fn make(pattern: &[u8], key: u32, tally: &mut [u32]) -> Signature {
     let begun = Builder::begin(short(pattern.len()), Key { r: key });
     let verdict = begun.verdict;
     expect(tally, accepted(verdict));
@@ -45,7 +45,7 @@ fn next_size(size: usize, m: usize) -> usize {
 }
 
 // Whether a card has the pattern's length, the key and the fingerprints of its prefixes, and 0 past them.
-pub fn is_card_of(signature: Signature, pattern: &[u8], key: u32) -> bool {
+pub(crate) fn is_card_of(signature: Signature, pattern: &[u8], key: u32) -> bool {
     let prints = signature.prints;
     let mut same = signature.length == short(pattern.len()) && signature.key.r == key;
     let mut size: usize = 1;

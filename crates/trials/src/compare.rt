@@ -47,27 +47,27 @@ fn same_stages(a: [Stage; 20], b: [Stage; 20]) -> bool {
     same
 }
 
-pub fn same_signature(a: Signature, b: Signature) -> bool {
+pub(crate) fn same_signature(a: Signature, b: Signature) -> bool {
     let x = a.prints;
     let y = b.prints;
     a.length == b.length && a.key.r == b.key.r && same_prints(x, y)
 }
 
-pub fn same_builder(a: Builder, b: Builder) -> bool {
+pub(crate) fn same_builder(a: Builder, b: Builder) -> bool {
     let x = a.prints;
     let y = b.prints;
     let same_head = a.length == b.length && a.key.r == b.key.r;
     same_head && a.taken == b.taken && a.print.value == b.print.value && same_prints(x, y)
 }
 
-pub fn same_matcher(a: Matcher, b: Matcher) -> bool {
+pub(crate) fn same_matcher(a: Matcher, b: Matcher) -> bool {
     let x = a.stages;
     let y = b.stages;
     same_signature(a.signature, b.signature) && same_mark(a.now, b.now) && same_stages(x, y)
 }
 
 // A ring as a number: 0, or one more than its start.
-pub fn ring_number(ring: Ring) -> u64 {
+pub(crate) fn ring_number(ring: Ring) -> u64 {
     if let Ring::At(start) = ring {
         return start as u64 + 1;
     }
@@ -90,7 +90,7 @@ fn same_sets(a: [Progression; 20], b: [Progression; 20]) -> bool {
     same
 }
 
-pub fn same_answer(a: Answer, b: Answer) -> bool {
+pub(crate) fn same_answer(a: Answer, b: Answer) -> bool {
     let x = a.sets;
     let y = b.sets;
     let heard = a.ring;

@@ -173,7 +173,7 @@ fn sum(a: u32, b: u32) -> u32 {
 }
 
 // All groups, and the failures of all.
-pub fn all() {
+pub(crate) fn all() {
     let mut failures = group(b"one behind another", TOGETHER, 2049, 23, 21);
     let mut i: usize = 0;
     while i < 21 {

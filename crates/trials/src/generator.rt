@@ -17,12 +17,12 @@ pub struct Shape {
 }
 
 // The next state of the generator.
-pub fn next(state: u32) -> u32 {
+pub(crate) fn next(state: u32) -> u32 {
     (((state as u64) * 1664525 + 1013904223) % 4294967296) as u32
 }
 
 // A number below n, for n up to 65536, out of the upper bits of a state.
-pub fn below(state: u32, n: usize) -> usize {
+pub(crate) fn below(state: u32, n: usize) -> usize {
     if n == 0 {
         return 0;
     }
@@ -35,7 +35,7 @@ fn letter(state: u32, shape: Shape) -> u8 {
 }
 
 // Fills the first m places with a pattern.
-pub fn fill_pattern(pattern: &mut [u8], m: usize, shape: Shape) {
+pub(crate) fn fill_pattern(pattern: &mut [u8], m: usize, shape: Shape) {
     let mut state = shape.seed;
     let mut i: usize = 0;
     while i < m {
@@ -75,7 +75,7 @@ fn twin_byte(pattern: &[u8], place: usize, turn: usize, key: u32) -> u8 {
 }
 
 // Makes a pattern its own twin at a place.
-pub fn twist(pattern: &mut [u8], turn: usize, key: u32) {
+pub(crate) fn twist(pattern: &mut [u8], turn: usize, key: u32) {
     let upper = twin_byte(pattern, turn, turn, key);
     let lower = twin_byte(pattern, plus(turn, 1), turn, key);
     put(pattern, turn, upper);
@@ -106,7 +106,7 @@ const LETTERS: usize = 5;
 const LAST_PERIOD: usize = 6;
 
 // The first piece to come is drawn from a seed.
-pub fn begun(seed: u32) -> Source {
+pub(crate) fn begun(seed: u32) -> Source {
     Source {
         state: seed,
         kind: 0,
@@ -139,7 +139,7 @@ fn piece_length(kind: usize, m: usize, turn: usize, start: usize) -> usize {
 }
 
 // The source with a new piece where the last one is at its end.
-pub fn ready(source: Source, m: usize, period: usize) -> Source {
+pub(crate) fn ready(source: Source, m: usize, period: usize) -> Source {
     if 0 < source.left {
         return source;
     }
@@ -158,7 +158,7 @@ pub fn ready(source: Source, m: usize, period: usize) -> Source {
 }
 
 // The byte that a source brings.
-pub fn byte_of(source: Source, pattern: &[u8], shape: Shape) -> u8 {
+pub(crate) fn byte_of(source: Source, pattern: &[u8], shape: Shape) -> u8 {
     let place = source.place;
     let own = at(pattern, place);
     if source.kind == NEAR_MISS && place == source.turn {
@@ -174,7 +174,7 @@ pub fn byte_of(source: Source, pattern: &[u8], shape: Shape) -> u8 {
 }
 
 // The source a byte later.
-pub fn moved(source: Source) -> Source {
+pub(crate) fn moved(source: Source) -> Source {
     Source {
         state: next(source.state),
         place: plus(source.place, 1),
@@ -184,7 +184,7 @@ pub fn moved(source: Source) -> Source {
 }
 
 // Fills the first n places with a stream.
-pub fn fill_stream(stream: &mut [u8], n: usize, pattern: &[u8], shape: Shape) {
+pub(crate) fn fill_stream(stream: &mut [u8], n: usize, pattern: &[u8], shape: Shape) {
     let mut from = begun(next(shape.seed));
     let mut i: usize = 0;
     while i < n {

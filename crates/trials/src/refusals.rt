@@ -83,7 +83,7 @@ fn ends(tally: &mut [u32]) {
 }
 
 // All cases; how often each number was met; and how many checks failed.
-pub fn all() {
+pub(crate) fn all() {
     let mut tally = [0u32; PLACES];
     half_made_cards(&mut tally);
     cards_handed_in(&mut tally);

@@ -180,7 +180,7 @@ fn longest_length() -> u32 {
     count(&tally, FAILURES)
 }
 
-pub fn all() {
+pub(crate) fn all() {
     let mut failures: u32 = 0;
     let mut i: usize = 0;
     while i < 22 {

@@ -49,7 +49,7 @@ fn key_of(flavour: usize, i: usize) -> u32 {
 }
 
 // The shape number i of patterns of m bytes.
-pub fn shape_of(m: usize, i: usize) -> Shape {
+pub(crate) fn shape_of(m: usize, i: usize) -> Shape {
     let flavour = i / 20;
     let seed = short(plus(m % 65536 * 128, i));
     Shape {
@@ -62,7 +62,7 @@ pub fn shape_of(m: usize, i: usize) -> Shape {
 }
 
 // Fills the pattern of shape number i.
-pub fn fill(pattern: &mut [u8], m: usize, i: usize) {
+pub(crate) fn fill(pattern: &mut [u8], m: usize, i: usize) {
     let flavour = i / 20;
     let shape = shape_of(m, i);
     fill_pattern(pattern, m, shape);

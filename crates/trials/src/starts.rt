@@ -22,7 +22,7 @@ const RUNG: u8 = 1;
 const SET_ASIDE: u8 = 2;
 
 // A start rang at the last byte of the stream so far. It must end there and be new; a false one must have the pattern's fingerprint.
-pub fn rung(
+pub(crate) fn rung(
     stream: &[u8],
     pattern: &[u8],
     key: u32,
@@ -51,7 +51,7 @@ fn put_aside(stream: &[u8], pattern: &[u8], start: usize, marks: &mut [u8], tall
 }
 
 // A set was set aside at the last byte of the stream so far; that needs a collision.
-pub fn set_aside(
+pub(crate) fn set_aside(
     stream: &[u8],
     pattern: &[u8],
     key: u32,
@@ -71,7 +71,7 @@ pub fn set_aside(
 }
 
 // After the stream: each occurrence was reported.
-pub fn settle(stream: &[u8], pattern: &[u8], marks: &[u8], tally: &mut [u32]) {
+pub(crate) fn settle(stream: &[u8], pattern: &[u8], marks: &[u8], tally: &mut [u32]) {
     let mut start: usize = 0;
     while start < stream.len() {
         settle_start(stream, pattern, start, at(marks, start), tally);

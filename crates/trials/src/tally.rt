@@ -40,12 +40,12 @@ pub const REFUSED: usize = 14;
 pub const PLACES: usize = 15;
 
 // The counter at a place, 0 past the end.
-pub fn count(tally: &[u32], i: usize) -> u32 {
+pub(crate) fn count(tally: &[u32], i: usize) -> u32 {
     if i < tally.len() { tally[i] } else { 0 }
 }
 
 // Adds to a counter.
-pub fn add(tally: &mut [u32], i: usize, by: u32) {
+pub(crate) fn add(tally: &mut [u32], i: usize, by: u32) {
     if i < tally.len() {
         let sum = std::num::wrapping_add_u32(tally[i], by);
         tally[i] = sum;
@@ -53,7 +53,7 @@ pub fn add(tally: &mut [u32], i: usize, by: u32) {
 }
 
 // Counts a failure where a check does not hold.
-pub fn expect(tally: &mut [u32], holds: bool) {
+pub(crate) fn expect(tally: &mut [u32], holds: bool) {
     if !holds {
         add(tally, FAILURES, 1);
     }
@@ -72,12 +72,12 @@ fn mix_at(tally: &mut [u32], i: usize, value: u32) {
 }
 
 // Takes a number of an answer into the digest.
-pub fn mix(tally: &mut [u32], value: u32) {
+pub(crate) fn mix(tally: &mut [u32], value: u32) {
     mix_at(tally, DIGEST, value);
 }
 
 // Takes a record into the digest.
-pub fn mix_record(tally: &mut [u32], bytes: &[u8]) {
+pub(crate) fn mix_record(tally: &mut [u32], bytes: &[u8]) {
     let mut i: usize = 0;
     while i < bytes.len() {
         mix_at(tally, RECORDS, at(bytes, i) as u32);

@@ -87,7 +87,13 @@ fn walk(
 }
 
 // A stream, cut before the first byte and then at every byte in turn.
-pub fn in_turn(signature: Signature, stream: &[u8], pattern: &[u8], key: u32, tally: &mut [u32]) {
+pub(crate) fn in_turn(
+    signature: Signature,
+    stream: &[u8],
+    pattern: &[u8],
+    key: u32,
+    tally: &mut [u32],
+) {
     let mut marks = [0u8; LONGEST];
     let uncut = fresh(signature, tally);
     let resumed = cut(uncut, signature, tally);
@@ -183,7 +189,7 @@ fn each_cut(
 }
 
 // The same from a fresh watch on.
-pub fn each_alone(
+pub(crate) fn each_alone(
     signature: Signature,
     stream: &[u8],
     pattern: &[u8],

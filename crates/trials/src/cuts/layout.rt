@@ -12,12 +12,12 @@ use naive::stages;
 use signature::Signature;
 
 // The size of a parked record: the length field and what it counts.
-pub fn record_size(m: u32) -> usize {
+pub(crate) fn record_size(m: u32) -> usize {
     26 + 28 * (stages(m as usize) as usize)
 }
 
 // The size of a card's record.
-pub fn card_size(m: u32) -> usize {
+pub(crate) fn card_size(m: u32) -> usize {
     18 + 4 * (stages(m as usize) as usize)
 }
 
@@ -73,7 +73,7 @@ fn put_stages(buffer: &mut [u8], at: usize, stages: [Stage; 20], k: usize) {
 }
 
 // A parked watch, from a place on: kind 2, m, r, the fingerprint of P_k, t, F_t, then the stages.
-pub fn put_watch(buffer: &mut [u8], at: usize, w: Matcher) {
+pub(crate) fn put_watch(buffer: &mut [u8], at: usize, w: Matcher) {
     let signature = w.signature;
     let prints = signature.prints;
     let listed = w.stages;
@@ -92,7 +92,7 @@ fn put_print_of(buffer: &mut [u8], prints: [Fingerprint; 21], i: usize, k: usize
 }
 
 // A card, in the front: kind 1, m, r, the fingerprints of P_0 .. P_k.
-pub fn put_card(buffer: &mut [u8], signature: Signature) {
+pub(crate) fn put_card(buffer: &mut [u8], signature: Signature) {
     let prints = signature.prints;
     let k = stages(signature.length as usize) as usize;
     put_head(buffer, 0, card_size(signature.length), 1, signature);

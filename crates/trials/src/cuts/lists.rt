@@ -305,7 +305,7 @@ fn beginning(matcher: Matcher, seed: u32) -> Walk {
 }
 
 // Two lists of calls, each from a fresh watch; the second may resume what the first parked.
-pub fn trial(signature: Signature, pattern: &[u8], shape: Shape, tally: &mut [u32]) {
+pub(crate) fn trial(signature: Signature, pattern: &[u8], shape: Shape, tally: &mut [u32]) {
     let mut kept = [0u8; 3 * SLOT];
     let started = Matcher::start(signature);
     let fresh = started.matcher;

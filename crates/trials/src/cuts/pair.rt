@@ -14,7 +14,7 @@ pub struct Pair {
 }
 
 // Before the next byte.
-pub fn pair_of(uncut: Matcher, resumed: Matcher) -> Pair {
+pub(crate) fn pair_of(uncut: Matcher, resumed: Matcher) -> Pair {
     Pair {
         uncut,
         resumed,
@@ -23,7 +23,7 @@ pub fn pair_of(uncut: Matcher, resumed: Matcher) -> Pair {
 }
 
 // The same byte to both: they take it and answer alike.
-pub fn strike(pair: Pair, byte: u8, tally: &mut [u32]) -> Pair {
+pub(crate) fn strike(pair: Pair, byte: u8, tally: &mut [u32]) -> Pair {
     let plain = pair.uncut.stroke(byte);
     let other = pair.resumed.stroke(byte);
     let verdict = plain.verdict;
@@ -41,6 +41,6 @@ pub fn strike(pair: Pair, byte: u8, tally: &mut [u32]) -> Pair {
 }
 
 // At the end of a stream they are the same watch.
-pub fn finish(pair: Pair, tally: &mut [u32]) {
+pub(crate) fn finish(pair: Pair, tally: &mut [u32]) {
     expect(tally, same_matcher(pair.uncut, pair.resumed));
 }

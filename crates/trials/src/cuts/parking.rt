@@ -53,7 +53,7 @@ fn park(w: Matcher, buffer: &mut [u8], tally: &mut [u32]) {
 
 // Parks a watch behind the used bytes of a buffer of at most 6144 bytes, and hands back the new used length. The used bytes stay as they
 // were, and so do those behind the record.
-pub fn park_behind(w: Matcher, buffer: &mut [u8], used: usize, tally: &mut [u32]) -> usize {
+pub(crate) fn park_behind(w: Matcher, buffer: &mut [u8], used: usize, tally: &mut [u32]) -> usize {
     let mut wanted = [0u8; LARGEST];
     foresee(w, buffer, used, &mut wanted);
     let written = save_behind(w, buffer, used);
@@ -68,7 +68,12 @@ pub fn park_behind(w: Matcher, buffer: &mut [u8], used: usize, tally: &mut [u32]
 }
 
 // Resumes a watch under its card: that takes the record's bytes and gives the watch that was parked.
-pub fn resume(signature: Signature, buffer: &[u8], parked: Matcher, tally: &mut [u32]) -> Matcher {
+pub(crate) fn resume(
+    signature: Signature,
+    buffer: &[u8],
+    parked: Matcher,
+    tally: &mut [u32],
+) -> Matcher {
     let restored = restore(signature, buffer);
     let verdict = restored.verdict;
     expect(
@@ -81,7 +86,7 @@ pub fn resume(signature: Signature, buffer: &[u8], parked: Matcher, tally: &mut 
 }
 
 // Parks a watch and resumes it.
-pub fn cut(w: Matcher, signature: Signature, tally: &mut [u32]) -> Matcher {
+pub(crate) fn cut(w: Matcher, signature: Signature, tally: &mut [u32]) -> Matcher {
     let mut record = [FILLER; ROOM];
     park(w, &mut record, tally);
     mix_record(tally, front(&record, record_size(signature.length)));
@@ -115,7 +120,7 @@ fn read(buffer: &[u8], written: Signature, tally: &mut [u32]) -> Signature {
 }
 
 // A card, written and read back.
-pub fn reread(signature: Signature, tally: &mut [u32]) -> Signature {
+pub(crate) fn reread(signature: Signature, tally: &mut [u32]) -> Signature {
     let mut buffer = [FILLER; ROOM];
     write(signature, &mut buffer, tally);
     mix_record(tally, front(&buffer, card_size(signature.length)));

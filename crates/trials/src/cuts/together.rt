@@ -231,7 +231,7 @@ fn finish_all(pairs: [Pair; 4], stream: &[u8], pattern: &[u8], marks: &[u8], tal
 }
 
 // A stream for four patterns, cut before the first byte and at every byte.
-pub fn trial(pattern: &[u8], stream: &[u8], tally: &mut [u32]) {
+pub(crate) fn trial(pattern: &[u8], stream: &[u8], tally: &mut [u32]) {
     let mut marks = [0u8; 4 * MARKS];
     let cards = cards_of(pattern, tally);
     let first = cut_all(all_fresh(cards), cards, tally);

@@ -85,7 +85,7 @@ fn cases(rows: &[[u32; 6]], tally: &mut [u32]) {
 
 // One start: too old, the oldest, the youngest, too young, not yet taken. The last stage of a passage whose length is no power of two, and
 // stage 0. Two starts.
-pub fn starts(tally: &mut [u32]) {
+pub(crate) fn starts(tally: &mut [u32]) {
     cases(
         &[
             [16, 3, 100, 84, 84, 10],
@@ -113,7 +113,7 @@ pub fn starts(tally: &mut [u32]) {
 }
 
 // The longest passage's last stage.
-pub fn longest(tally: &mut [u32]) {
+pub(crate) fn longest(tally: &mut [u32]) {
     cases(
         &[
             [1048576, 19, 2000000, 951424, 951424, 10],

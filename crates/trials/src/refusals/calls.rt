@@ -54,14 +54,14 @@ fn scan(w: Matcher, number: u32, tally: &mut [u32]) {
 }
 
 // All strokes, with this verdict.
-pub fn strikes(w: Matcher, number: u32, tally: &mut [u32]) {
+pub(crate) fn strikes(w: Matcher, number: u32, tally: &mut [u32]) {
     strike(w, number, tally);
     strike_thin(w, number, tally);
     scan(w, number, tally);
 }
 
 // Whether the record at the front of a buffer is that of this watch.
-pub fn resumes_as(w: Matcher, buffer: &[u8], taken: usize) -> bool {
+pub(crate) fn resumes_as(w: Matcher, buffer: &[u8], taken: usize) -> bool {
     let restored = restore(w.signature, buffer);
     restored.taken == taken && same_matcher(restored.matcher, w)
 }
@@ -106,7 +106,7 @@ fn park_short(w: Matcher, number: u32, tally: &mut [u32]) {
 }
 
 // All parkings, with this verdict.
-pub fn parkings(w: Matcher, number: u32, tally: &mut [u32]) {
+pub(crate) fn parkings(w: Matcher, number: u32, tally: &mut [u32]) {
     park(w, number, tally);
     park_behind(w, number, tally);
     park_short(w, number, tally);

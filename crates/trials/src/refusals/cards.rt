@@ -50,7 +50,7 @@ fn blank(signature: Signature) -> Matcher {
 }
 
 // A watch that is all 0, as it stands beside a refusal.
-pub fn nothing() -> Matcher {
+pub(crate) fn nothing() -> Matcher {
     blank(Signature::none())
 }
 
@@ -65,7 +65,7 @@ fn longest_card() -> Signature {
 }
 
 // The card of so many ones under key 2, at most 64; else the longest.
-pub fn card_of(m: u32) -> Signature {
+pub(crate) fn card_of(m: u32) -> Signature {
     if 64 < m {
         return longest_card();
     }
@@ -153,7 +153,7 @@ fn cases(rows: &[[u32; 4]], tally: &mut [u32]) {
 }
 
 // Lengths: outside the limits, and with a print past the last.
-pub fn lengths(tally: &mut [u32]) {
+pub(crate) fn lengths(tally: &mut [u32]) {
     cases(
         &[
             [5, NONE, 0, 0],
@@ -171,7 +171,7 @@ pub fn lengths(tally: &mut [u32]) {
 }
 
 // Keys at their limits.
-pub fn keys(tally: &mut [u32]) {
+pub(crate) fn keys(tally: &mut [u32]) {
     cases(
         &[
             [5, KEY, 0, 10],
@@ -187,7 +187,7 @@ pub fn keys(tally: &mut [u32]) {
 }
 
 // A first print over 255, and others not below p.
-pub fn prints(tally: &mut [u32]) {
+pub(crate) fn prints(tally: &mut [u32]) {
     cases(
         &[
             [1, PRINTS, 255, 0],
@@ -206,7 +206,7 @@ pub fn prints(tally: &mut [u32]) {
 }
 
 // Prints past the last.
-pub fn past(tally: &mut [u32]) {
+pub(crate) fn past(tally: &mut [u32]) {
     cases(
         &[
             [1, PRINTS + 1, 1, 10],

@@ -54,7 +54,7 @@ pub const STEP_PRINT: u32 = 6;
 pub const NONE: u32 = 999;
 
 // One of two numbers.
-pub fn pick(chosen: bool, value: u32, other: u32) -> u32 {
+pub(crate) fn pick(chosen: bool, value: u32, other: u32) -> u32 {
     if chosen { value } else { other }
 }
 
@@ -76,7 +76,7 @@ fn changed_prints(before: [Fingerprint; 21], place: u32, value: u32) -> [Fingerp
 }
 
 // A half-made card with the number at a place replaced.
-pub fn changed_builder(b: Builder, place: u32, value: u32) -> Builder {
+pub(crate) fn changed_builder(b: Builder, place: u32, value: u32) -> Builder {
     let before = b.prints;
     let prints = changed_prints(before, place, value);
     Builder {
@@ -91,7 +91,7 @@ pub fn changed_builder(b: Builder, place: u32, value: u32) -> Builder {
 }
 
 // A card with the number at a place replaced.
-pub fn changed_card(s: Signature, place: u32, value: u32) -> Signature {
+pub(crate) fn changed_card(s: Signature, place: u32, value: u32) -> Signature {
     let before = s.prints;
     let prints = changed_prints(before, place, value);
     Signature {
@@ -137,7 +137,7 @@ fn changed_stages(before: [Stage; 20], place: u32, value: u32) -> [Stage; 20] {
 }
 
 // A watch with the number at a place replaced.
-pub fn changed_watch(w: Matcher, place: u32, value: u32) -> Matcher {
+pub(crate) fn changed_watch(w: Matcher, place: u32, value: u32) -> Matcher {
     let before = w.stages;
     let signature = w.signature;
     let stages = changed_stages(before, place, value);

@@ -64,7 +64,7 @@ fn begins(rows: &[[u32; 3]], tally: &mut [u32]) {
 }
 
 // Lengths; an empty or overlong passage is refused before its key.
-pub fn lengths(tally: &mut [u32]) {
+pub(crate) fn lengths(tally: &mut [u32]) {
     begins(
         &[
             [0, 2, 1],
@@ -83,7 +83,7 @@ pub fn lengths(tally: &mut [u32]) {
 }
 
 // Keys at their limits.
-pub fn keys(tally: &mut [u32]) {
+pub(crate) fn keys(tally: &mut [u32]) {
     begins(
         &[
             [5, 0, 3],
@@ -176,7 +176,7 @@ fn cases(rows: &[[u32; 6]], tally: &mut [u32]) {
 }
 
 // A card is unfinished until its last byte, and takes none behind it.
-pub fn counts(tally: &mut [u32]) {
+pub(crate) fn counts(tally: &mut [u32]) {
     cases(
         &[
             [1, 0, NONE, 0, 0, 4],
@@ -193,7 +193,7 @@ pub fn counts(tally: &mut [u32]) {
 }
 
 // A length or key outside its limits, at a card that is unfinished or takes no more; and more bytes than the length.
-pub fn limits(tally: &mut [u32]) {
+pub(crate) fn limits(tally: &mut [u32]) {
     cases(
         &[
             [5, 0, LENGTH, 0, 10, 10],
@@ -217,7 +217,7 @@ pub fn limits(tally: &mut [u32]) {
 }
 
 // Prints not below p, and a first print over 255; a running print at 0 bytes, and prints not yet reached or past the last.
-pub fn prints(tally: &mut [u32]) {
+pub(crate) fn prints(tally: &mut [u32]) {
     cases(
         &[
             [5, 3, RUNNING, 2147483646, 0, 4],

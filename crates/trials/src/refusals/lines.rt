@@ -63,7 +63,7 @@ fn listing(card: Signature, stream: &[u8]) {
 }
 
 // Case L: eight ones under key 2, whose card is given as a record.
-pub fn case_l(tally: &mut [u32]) {
+pub(crate) fn case_l(tally: &mut [u32]) {
     let read = read_signature(
         b"\x1A\0\0\0\x01\0\x08\0\0\0\x02\0\0\0\x01\0\0\0\x03\0\0\0\x0F\0\0\0\xFF\0\0\0",
     );
@@ -74,7 +74,7 @@ pub fn case_l(tally: &mut [u32]) {
 }
 
 // The pattern of M9 and the stream of M10, which rings although it differs.
-pub fn phantom(tally: &mut [u32]) {
+pub(crate) fn phantom(tally: &mut [u32]) {
     let card = make(&[1, 1, 1, 0], 2, tally);
     words(b"M9 and M10\n");
     listing(card, &[1, 1, 0, 2]);

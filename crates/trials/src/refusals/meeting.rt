@@ -22,18 +22,18 @@ fn place_of(number: u32) -> usize {
 }
 
 // Counts a verdict by its number.
-pub fn note(met: u32, tally: &mut [u32]) {
+pub(crate) fn note(met: u32, tally: &mut [u32]) {
     add(tally, place_of(met), 1);
 }
 
 // Counts a verdict that must have this number, 0 for accepted.
-pub fn tell(met: u32, number: u32, tally: &mut [u32]) {
+pub(crate) fn tell(met: u32, number: u32, tally: &mut [u32]) {
     expect(tally, met == number);
     note(met, tally);
 }
 
 // The same, and prints the number that was met.
-pub fn meet(verdict: Verdict, number: u32, tally: &mut [u32]) {
+pub(crate) fn meet(verdict: Verdict, number: u32, tally: &mut [u32]) {
     let met = verdict.number();
     item(b" ", met);
     tell(met, number, tally);
@@ -57,13 +57,13 @@ fn say_refusals(tally: &[u32]) {
 }
 
 // How many calls were accepted, and how many were refused with each number.
-pub fn say_counts(tally: &[u32]) {
+pub(crate) fn say_counts(tally: &[u32]) {
     item(b" accepted ", count(tally, ACCEPTED));
     say_refusals(tally);
 }
 
 // Adds the counts of one tally to another.
-pub fn gather(from: &[u32], tally: &mut [u32]) {
+pub(crate) fn gather(from: &[u32], tally: &mut [u32]) {
     let mut i: usize = 0;
     while i < 13 {
         add(tally, i, count(from, i));

@@ -35,7 +35,7 @@ fn say_head_place(place: u32) {
 }
 
 // A place of a card or a half-made card, and what stands there now.
-pub fn say_card_change(place: u32, value: u32) {
+pub(crate) fn say_card_change(place: u32, value: u32) {
     if place == NONE {
         return;
     }
@@ -85,7 +85,7 @@ fn say_stage_place(place: u32) {
 }
 
 // A place of a watch, and what stands there now.
-pub fn say_watch_change(place: u32, value: u32) {
+pub(crate) fn say_watch_change(place: u32, value: u32) {
     if place == NONE {
         return;
     }

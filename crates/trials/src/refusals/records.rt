@@ -113,7 +113,7 @@ fn watches(rows: &[[u32; 6]], tally: &mut [u32]) {
 }
 
 // Fewer than 4 bytes, and fewer than length + 4, whatever else is wrong.
-pub fn short_cards(tally: &mut [u32]) {
+pub(crate) fn short_cards(tally: &mut [u32]) {
     cards(
         &[
             [26, 1, 0, 6, 5, 8],
@@ -133,7 +133,7 @@ pub fn short_cards(tally: &mut [u32]) {
 
 // A length under 2 is a misfit before the kind is looked at, one under 10 behind it; another kind, also by its second byte, is told before a
 // misfit.
-pub fn card_heads(tally: &mut [u32]) {
+pub(crate) fn card_heads(tally: &mut [u32]) {
     cards(
         &[
             [0, 1, 4, 6, 5, 10],
@@ -157,7 +157,7 @@ pub fn card_heads(tally: &mut [u32]) {
 }
 
 // Lengths that don't suit k.
-pub fn card_lengths(tally: &mut [u32]) {
+pub(crate) fn card_lengths(tally: &mut [u32]) {
     cards(
         &[
             [14, 1, 600, 6, 5, 10],
@@ -173,7 +173,7 @@ pub fn card_lengths(tally: &mut [u32]) {
 }
 
 // Limits of its numbers.
-pub fn card_limits(tally: &mut [u32]) {
+pub(crate) fn card_limits(tally: &mut [u32]) {
     cards(
         &[
             [26, 1, 600, 6, 0, 10],
@@ -192,7 +192,7 @@ pub fn card_limits(tally: &mut [u32]) {
 }
 
 // The same for a parked watch: too short.
-pub fn short_watches(tally: &mut [u32]) {
+pub(crate) fn short_watches(tally: &mut [u32]) {
     watches(
         &[
             [106, 2, 0, 6, 5, 8],
@@ -209,7 +209,7 @@ pub fn short_watches(tally: &mut [u32]) {
 }
 
 // A length under 2 before the kind, one under 22 behind it and before another passage; lengths that don't suit k, behind another passage.
-pub fn watch_heads(tally: &mut [u32]) {
+pub(crate) fn watch_heads(tally: &mut [u32]) {
     watches(
         &[
             [0, 2, 4, 6, 5, 10],
@@ -234,7 +234,7 @@ pub fn watch_heads(tally: &mut [u32]) {
 }
 
 // Another passage: by its length, its key, its last print, also where these are outside their limits.
-pub fn other_passages(tally: &mut [u32]) {
+pub(crate) fn other_passages(tally: &mut [u32]) {
     watches(
         &[
             [106, 2, 600, 6, 6, 11],
@@ -279,7 +279,7 @@ fn misfits(rows: &[[u32; 3]], tally: &mut [u32]) {
 }
 
 // Neither, one of the two, and both.
-pub fn other_misfits(tally: &mut [u32]) {
+pub(crate) fn other_misfits(tally: &mut [u32]) {
     misfits(
         &[
             [2, 7, 0],

@@ -200,14 +200,14 @@ fn parked(m: u32, taken: u32, tally: &mut [u32]) {
 }
 
 // The shortest card, one whose length is no power of two, and the longest.
-pub fn cards(tally: &mut [u32]) {
+pub(crate) fn cards(tally: &mut [u32]) {
     card(1, tally);
     card(5, tally);
     card(1048576, tally);
 }
 
 // Watches with no stage, fresh and not; with stages that list none, one or more.
-pub fn watches(tally: &mut [u32]) {
+pub(crate) fn watches(tally: &mut [u32]) {
     parked(1, 0, tally);
     parked(1, 6, tally);
     parked(5, 3, tally);

@@ -145,14 +145,14 @@ fn parked(row: [u32; 3], tally: &mut [u32]) {
 }
 
 // The shortest card, one whose length is no power of two, and the longest.
-pub fn cards(tally: &mut [u32]) {
+pub(crate) fn cards(tally: &mut [u32]) {
     card([1, 18], tally);
     card([5, 30], tally);
     card([1048576, 98], tally);
 }
 
 // The same of watches, and behind a used part.
-pub fn watches(tally: &mut [u32]) {
+pub(crate) fn watches(tally: &mut [u32]) {
     parked([1, 26, 0], tally);
     parked([1, 26, 31], tally);
     parked([5, 110, 0], tally);
@@ -184,7 +184,7 @@ fn edges_of(rows: &[[u32; 3]], tally: &mut [u32]) {
 }
 
 // One byte short, and just enough; behind another watch; and used parts up to the buffer's end and past it.
-pub fn edges(tally: &mut [u32]) {
+pub(crate) fn edges(tally: &mut [u32]) {
     edges_of(
         &[
             [0, 0, 7],

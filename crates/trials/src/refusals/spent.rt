@@ -92,7 +92,7 @@ fn last(m: u32, t: u32, tally: &mut [u32]) {
 }
 
 // Passages that are rung at the last byte, and a watch that has taken all bytes.
-pub fn short(tally: &mut [u32]) {
+pub(crate) fn short(tally: &mut [u32]) {
     last(1, 4294967294, tally);
     last(1, 4294967295, tally);
     last(2, 4294967293, tally);
@@ -100,7 +100,7 @@ pub fn short(tally: &mut [u32]) {
 }
 
 // Stages that list starts at the end, and watches with all of their stages.
-pub fn long(tally: &mut [u32]) {
+pub(crate) fn long(tally: &mut [u32]) {
     last(16, 4294967270, tally);
     last(16, 4294967295, tally);
     last(1048576, 4294967294, tally);

@@ -41,7 +41,7 @@ use record::checkpoint::save;
 use signature::Signature;
 
 // The watch of a card after so many ones.
-pub fn watch(m: u32, taken: u32) -> Matcher {
+pub(crate) fn watch(m: u32, taken: u32) -> Matcher {
     let started = Matcher::start(card_of(m));
     let mut w = started.matcher;
     let mut i: u32 = 0;
@@ -54,7 +54,7 @@ pub fn watch(m: u32, taken: u32) -> Matcher {
 }
 
 // Replaces a number of a watch in its record: it stands behind the head, the length, the key and the last print.
-pub fn put_place(buffer: &mut [u8], place: u32, value: u32) {
+pub(crate) fn put_place(buffer: &mut [u8], place: u32, value: u32) {
     if place < NONE {
         put_number(buffer, (18 + 4 * place) as usize, value);
     }
@@ -112,7 +112,7 @@ fn cases(m: u32, taken: u32, rows: &[[u32; 5]], tally: &mut [u32]) {
 
 // t and F_t of the watch of sixteen ones after six. Its stage 0 lists start 5, stage 1 the starts 3 and 4, stage 2 the starts 0, 1 and 2, and
 // stage 3 none.
-pub fn counts(tally: &mut [u32]) {
+pub(crate) fn counts(tally: &mut [u32]) {
     cases(
         16,
         6,
@@ -132,7 +132,7 @@ pub fn counts(tally: &mut [u32]) {
 }
 
 // Stage 3, which lists nothing: its other six numbers are 0.
-pub fn none_listed(tally: &mut [u32]) {
+pub(crate) fn none_listed(tally: &mut [u32]) {
     cases(
         16,
         6,
@@ -150,7 +150,7 @@ pub fn none_listed(tally: &mut [u32]) {
 }
 
 // Stage 0, which lists one start: the last is the first, with its print, and there is no step.
-pub fn one_listed(tally: &mut [u32]) {
+pub(crate) fn one_listed(tally: &mut [u32]) {
     cases(
         16,
         6,
@@ -183,7 +183,7 @@ pub fn one_listed(tally: &mut [u32]) {
 }
 
 // Stage 2, which lists three starts: held, first, last and step that don't go together; and its prints, each below p.
-pub fn many_listed(tally: &mut [u32]) {
+pub(crate) fn many_listed(tally: &mut [u32]) {
     cases(
         16,
         6,
@@ -210,7 +210,7 @@ pub fn many_listed(tally: &mut [u32]) {
 }
 
 // A last start too young, and a first too old; a step of 0 between equal starts; products that are right only modulo 2^32; and the largest.
-pub fn many_listed_at(tally: &mut [u32]) {
+pub(crate) fn many_listed_at(tally: &mut [u32]) {
     cases(
         16,
         6,
@@ -227,7 +227,7 @@ pub fn many_listed_at(tally: &mut [u32]) {
 }
 
 // A fresh watch: F_t is 0 at t = 0, and nothing is listed.
-pub fn fresh(tally: &mut [u32]) {
+pub(crate) fn fresh(tally: &mut [u32]) {
     cases(
         16,
         0,
@@ -264,7 +264,7 @@ fn past_cases(rows: &[[u32; 2]], tally: &mut [u32]) {
 }
 
 // All numbers of the first stage past the last, and two of the very last; a passage of one byte has no stage.
-pub fn past(tally: &mut [u32]) {
+pub(crate) fn past(tally: &mut [u32]) {
     past_cases(
         &[
             [16, STAGE_4 + HELD],
@@ -309,7 +309,7 @@ fn card_cases(rows: &[[u32; 3]], tally: &mut [u32]) {
 }
 
 // Limits of its card; a shorter or longer passage has other stages.
-pub fn cards(tally: &mut [u32]) {
+pub(crate) fn cards(tally: &mut [u32]) {
     card_cases(
         &[
             [LENGTH, 0, 10],

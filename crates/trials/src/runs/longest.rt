@@ -142,7 +142,7 @@ fn strike(w: Matcher, t: usize, period: usize, altered: usize, tally: &mut [u32]
 }
 
 // A pattern of a period, and its stream with a place altered.
-pub fn trial(period: usize, altered: usize, tally: &mut [u32]) {
+pub(crate) fn trial(period: usize, altered: usize, tally: &mut [u32]) {
     let signature = make(period, tally);
     expect(tally, prints_agree(signature, period));
     let started = Matcher::start(signature);
