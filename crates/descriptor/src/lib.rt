@@ -1,6 +1,6 @@
 // Reading from a descriptor, with a read that failed told apart from the end of the input, and writing to one. No contract can say which bytes a
-// read brings, or what a write does; these are the only functions of the project that call the toolchain's own (docs/DECISIONS.md, "Read and
-// write").
+// read brings, or what a write does: for the input and output of `report` and `card` these functions alone call the toolchain's own
+// (docs/DECISIONS.md, "Read and write").
 ghost use Rattle.descriptor.specs.Reads.{Reads, ReadOnce, Writes};
 
 // How many bytes were read, to the buffer's front, and whether no read failed.
