@@ -4,17 +4,17 @@
 ghost use mathlib.Core.Path.{_≡_};
 ghost use lib.ListN.{length};
 ghost use Rattle.card.specs.Outcome.{Carded};
+use card_core::Parsed;
+use card_core::key_of;
+use card_core::parse;
+use card_core::write_card;
 use fingerprint::Key;
 use libc::STDERR_FILENO;
 use libc::STDIN_FILENO;
 use libc::STDOUT_FILENO;
-use listing::Put;
-use listing::put_refusal;
-use maker::Parsed;
-use maker::key_of;
-use maker::parse;
-use maker::write_card;
 use refusal::Verdict;
+use report_lines::Put;
+use report_lines::put_refusal;
 
 // The card was written; or it is refused; or a read failed; or the write did.
 enum Status {

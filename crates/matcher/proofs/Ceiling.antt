@@ -12,7 +12,7 @@ use Rattle.matcher.specs.Matcher.{noStage}
 use Rattle.matcher.specs.Stroke.{noAnswer, setsAside, nextMark, promoted, promotedUnder, matches, tried, ripe, visited, descended, walkedFrom, walked, strokeRefusal, strokeAnswer}
 use Rattle.matcher.specs.declared.Walk.{Walk}
 use Rattle.matcher.specs.declared.Round.{Round}
-use Rattle.sequence.proofs.Cases.{by-test}
+use Rattle.lists.proofs.Cases.{by-test}
 
 module _ (c : Round) where
   promoted-count : (i : ℕ) (start : Mark) (w : Walk) → promoted c i start w .answer .comparisons ≡ w .answer .comparisons

@@ -10,13 +10,13 @@ use borrow.Author.Tests.{ltb-true, leb-true, eqb-true, eqb-false, not-true, lt-l
 use Rattle.fingerprint.specs.Fingerprint.{p, printFits}
 use Rattle.fingerprint.proofs.Laws.{by-value}
 use Rattle.ladder.specs.Prefix.{levels, prefixLength}
-use Rattle.sequence.proofs.Laws.{and-left, and-right}
+use Rattle.lists.proofs.Laws.{and-left, and-right}
 use Rattle.matcher.specs.declared.Mark.{Mark}
 use Rattle.matcher.specs.declared.Gap.{Gap}
 use Rattle.matcher.specs.declared.Stage.{Stage}
 use Rattle.matcher.specs.Matcher.{noStage, noGap, origin, sameMark, sameGap, ageFits, noneFits, oneFits, manyFit, stageFits}
 use Rattle.matcher.specs.Stroke.{alone}
-use Rattle.sequence.proofs.Cases.{by-test, each}
+use Rattle.lists.proofs.Cases.{by-test, each}
 
 -- A start of stage i that is old enough at `lo` and young enough at `hi`.
 pub record Aged (m i lo hi start : ℕ) : Type 0 where

@@ -4,7 +4,7 @@ use Prim.Native.Nat.{ℕ}
 use mathlib.Core.Path.{_≡_, refl}
 use mathlib.Core.Bool.{true}
 use lib.ListN.{replicate, getD-replicate}
-use Rattle.sequence.proofs.Laws.{every-intro}
+use Rattle.lists.proofs.Laws.{every-intro}
 use Rattle.signature.specs.declared.Signature.{Signature}
 use Rattle.signature.specs.Signature.{signatureFits}
 use Rattle.matcher.specs.Matcher.{stageCount, noStage, noneFits, stageFits, fitsAt, stagesFit, matcherFits, blank, fresh}

@@ -10,12 +10,12 @@ use Rattle.fingerprint.specs.declared.Key.{Key}
 use Rattle.fingerprint.specs.Fingerprint.{p}
 use Rattle.ladder.specs.Prefix.{levels, prefixLength}
 use Rattle.ladder.proofs.Levels.{length-rises}
-use Rattle.sequence.proofs.Laws.{and-left}
+use Rattle.lists.proofs.Laws.{and-left}
 use Rattle.matcher.specs.declared.Mark.{Mark}
 use Rattle.matcher.specs.declared.Stage.{Stage}
 use Rattle.matcher.specs.Matcher.{sameGap}
 use Rattle.matcher.specs.Stroke.{alone, gapTo, takenOff, entered}
-use Rattle.sequence.proofs.Cases.{by-test}
+use Rattle.lists.proofs.Cases.{by-test}
 use Rattle.matcher.proofs.Fit.{Aged, Many, Fit, idle, single, several}
 
 module _ (m i : ℕ) (s : Stage) where

@@ -26,7 +26,7 @@ use Rattle.matcher.specs.Matcher.{maxTaken, noStage, matcherFits}
 use Rattle.matcher.specs.Stroke.{noAnswer, compared, nextMark, matches, tried, ripe, descended, walkedFrom, walked, strokeRefusal, strokeAnswer, afterStroke}
 use Rattle.matcher.specs.Scan.{Scanned, onward, scanned}
 use Rattle.matcher.specs.Skip.{skipped, Unripe}
-use Rattle.sequence.proofs.Cases.{by-test}
+use Rattle.lists.proofs.Cases.{by-test}
 use Rattle.matcher.proofs.Rounds.{visit-unripe}
 use Rattle.matcher.proofs.StrokeFits.{stroke-fits}
 

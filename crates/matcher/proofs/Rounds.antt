@@ -17,7 +17,7 @@ use Rattle.fingerprint.specs.Fingerprint.{p, printFits, same, empty}
 use Rattle.signature.specs.Signature.{maxLength, signatureFits}
 use Rattle.ladder.specs.Prefix.{levels, prefixLength}
 use Rattle.ladder.proofs.Levels.{levels-bound, length-within, first-length}
-use Rattle.sequence.proofs.Laws.{every-at, and-left, and-right}
+use Rattle.lists.proofs.Laws.{every-at, and-left, and-right}
 use Rattle.matcher.specs.declared.Mark.{Mark}
 use Rattle.matcher.specs.declared.Matcher.{Matcher}
 use Rattle.matcher.specs.declared.Stage.{Stage}
@@ -30,7 +30,7 @@ use Rattle.matcher.specs.declared.Walk.{Walk}
 use Rattle.matcher.specs.Matcher.{noStage, fitsAt, stagesFit, stageFits, matcherFits}
 use Rattle.matcher.specs.Stroke.{noAnswer, ringing, withSet, withAside, compared, takenOff, entered, setsAside, asideOf, allButLast, ripe, matches, promoted, promotedUnder, tried, visited, descended, walkedFrom}
 use Rattle.matcher.specs.Skip.{Shifts}
-use Rattle.sequence.proofs.Cases.{by-test, each}
+use Rattle.lists.proofs.Cases.{by-test, each}
 use Rattle.matcher.proofs.Fit.{Fit, idle, single, several, Many, fit-of}
 
 -- what entering set aside, put into the answer

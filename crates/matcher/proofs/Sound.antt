@@ -11,13 +11,13 @@ use borrow.Author.Tests.{eqb-true, ltb-true, leb-true, lt-ltb}
 use Rattle.fingerprint.specs.declared.Fingerprint.{Fingerprint}
 use Rattle.fingerprint.specs.Fingerprint.{p, printFits, same, empty}
 use Rattle.fingerprint.proofs.Laws.{by-value}
-use Rattle.sequence.specs.Sequence.{every}
-use Rattle.sequence.proofs.Laws.{and-left, every-at, every-intro}
+use Rattle.lists.specs.Lists.{every}
+use Rattle.lists.proofs.Laws.{and-left, every-at, every-intro}
 use Rattle.signature.specs.Signature.{maxLength, signatureFits}
 use Rattle.matcher.specs.declared.Matcher.{Matcher}
 use Rattle.matcher.specs.Matcher.{stageCount, noStage, stageFits, matcherFits}
 use Rattle.matcher.specs.Stroke.{nextMark, walked, strokeRefusal, afterStroke}
-use Rattle.sequence.proofs.Cases.{by-test, each}
+use Rattle.lists.proofs.Cases.{by-test, each}
 use Rattle.matcher.proofs.Fit.{Fit, fit-of, fits-of}
 
 -- What a watch that is no misfit says of itself.

@@ -14,7 +14,7 @@ use borrow.Author.Tests.{eqb-true, eqb-false, not-true, eq-eqb, ne-eqb}
 use Rattle.fingerprint.specs.Fingerprint.{p}
 use Rattle.ladder.specs.Prefix.{levels, prefixLength}
 use Rattle.ladder.proofs.Levels.{first-length, levels-bound}
-use Rattle.sequence.proofs.Laws.{and-left, and-right}
+use Rattle.lists.proofs.Laws.{and-left, and-right}
 use Rattle.matcher.specs.declared.Mark.{Mark}
 use Rattle.matcher.specs.declared.Stage.{Stage}
 use Rattle.matcher.specs.declared.Matcher.{Matcher}
@@ -22,7 +22,7 @@ use Rattle.matcher.specs.Matcher.{stageCount, noStage, matcherFits}
 use Rattle.matcher.specs.Stroke.{takenOff, entered, nextMark, noAnswer, promoted, promotedUnder, matches, tried, ripe, visited, descended, walkedFrom, walked, strokeRefusal, afterStroke}
 use Rattle.matcher.specs.declared.Walk.{Walk}
 use Rattle.matcher.specs.declared.Round.{Round}
-use Rattle.sequence.proofs.Cases.{by-test}
+use Rattle.lists.proofs.Cases.{by-test}
 use Rattle.matcher.proofs.Fit.{Fit, idle, fit-past, fit-print}
 use Rattle.matcher.proofs.Sound.{Sound, sound, sound-fits, taken-fits, after-taken}
 use Rattle.matcher.proofs.Keeps.{fit-later, fit-unripe, fit-off, fit-entered}

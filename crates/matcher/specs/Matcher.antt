@@ -6,7 +6,7 @@ use lib.ListN.{getD, replicate}
 use lib.Dec.{ltb, leb, eqb}
 use Rattle.fingerprint.specs.Fingerprint.{printFits, same, empty}
 use Rattle.ladder.specs.Prefix.{levels, prefixLength}
-use Rattle.sequence.specs.Sequence.{every}
+use Rattle.lists.specs.Lists.{every}
 use Rattle.signature.specs.declared.Signature.{Signature}
 use Rattle.signature.specs.Signature.{signatureFits, noSignature}
 use Rattle.matcher.specs.declared.Mark.{Mark}

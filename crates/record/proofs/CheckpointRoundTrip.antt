@@ -11,7 +11,7 @@ use lib.Dec.{ltb}
 use lib.ListN.{length, getD}
 use borrow.Author.Tests.{lt-ltb, le-ltb, eq-eqb}
 use Rattle.ladder.specs.Prefix.{levels}
-use Rattle.sequence.proofs.Laws.{tabulated}
+use Rattle.lists.proofs.Laws.{tabulated}
 use Rattle.matcher.specs.declared.Stage.{Stage}
 use Rattle.matcher.specs.declared.Matcher.{Matcher}
 use Rattle.matcher.specs.Matcher.{stageCount, noStage, matcherFits}

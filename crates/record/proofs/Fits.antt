@@ -13,7 +13,7 @@ use Rattle.fingerprint.specs.Fingerprint.{empty}
 use Rattle.fingerprint.proofs.Laws.{by-value}
 use Rattle.ladder.specs.Prefix.{levels, prefixLength}
 use Rattle.ladder.proofs.Levels.{levels-bound, length-within, length-positive}
-use Rattle.sequence.proofs.Laws.{and-left, and-right, every-at}
+use Rattle.lists.proofs.Laws.{and-left, and-right, every-at}
 use Rattle.signature.specs.declared.Signature.{Signature}
 use Rattle.signature.specs.Signature.{maxLength, places, printsFit, signatureFits}
 use Rattle.matcher.specs.declared.Stage.{Stage}

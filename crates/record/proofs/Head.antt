@@ -6,7 +6,7 @@ use mathlib.Core.List.{List, _++_}
 use native.Mathlib.Omega.{arith}
 use lib.ListN.{length, length-append}
 use borrow.Author.Tests.{le-ltb, eq-eqb}
-use Rattle.sequence.proofs.Tests.{tests}
+use Rattle.lists.proofs.Tests.{tests}
 use Rattle.record.specs.Layout.{wordAt, halfAt, recordOf}
 use Rattle.record.specs.Calls.{headRefusal}
 use Rattle.record.proofs.Bytes.{wide, length-record, read-length, read-kind}

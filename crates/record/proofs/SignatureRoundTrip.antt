@@ -13,7 +13,7 @@ use borrow.Author.Tests.{le-leb, lt-leb, eq-eqb}
 use Rattle.fingerprint.specs.Fingerprint.{empty}
 use Rattle.fingerprint.proofs.Laws.{by-value}
 use Rattle.ladder.specs.Prefix.{levels}
-use Rattle.sequence.proofs.Laws.{tabulated}
+use Rattle.lists.proofs.Laws.{tabulated}
 use Rattle.signature.specs.declared.Signature.{Signature}
 use Rattle.signature.specs.Signature.{places, signatureFits}
 use Rattle.record.specs.Layout.{

@@ -8,7 +8,7 @@ use Rattle.fingerprint.specs.declared.Key.{Key}
 use Rattle.fingerprint.specs.declared.Fingerprint.{Fingerprint}
 use Rattle.fingerprint.specs.Fingerprint.{empty, same}
 use Rattle.ladder.specs.Prefix.{levels}
-use Rattle.sequence.specs.Sequence.{tabulate}
+use Rattle.lists.specs.Lists.{tabulate}
 use Rattle.signature.specs.declared.Signature.{Signature}
 use Rattle.signature.specs.Signature.{places}
 use Rattle.matcher.specs.declared.Mark.{Mark}

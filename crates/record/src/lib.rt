@@ -3,7 +3,7 @@ ghost use mathlib.Core.Path.{_≡_};
 ghost use Prim.Native.Nat.{_+_, _*_, _≤_};
 ghost use lib.ListN.{length};
 ghost use Rattle.ladder.specs.Prefix.{levels};
-ghost use Rattle.sequence.specs.Sequence.{tabulate};
+ghost use Rattle.lists.specs.Lists.{tabulate};
 ghost use Rattle.refusal.specs.Number.{refusalNumber, number};
 ghost use Rattle.signature.specs.Signature.{noSignature};
 ghost use Rattle.record.specs.Layout.{

@@ -18,7 +18,7 @@ use Rattle.ladder.specs.Prefix.{levels, prefixLength, prefix}
 use Rattle.ladder.specs.Ladder as ladder
 use Rattle.ladder.proofs.Verdicts.{answer-same}
 use Rattle.ladder.proofs.Levels.{least-levels, below-levels, length-within, length-positive}
-use Rattle.sequence.proofs.Laws.{tabulated}
+use Rattle.lists.proofs.Laws.{tabulated}
 use Rattle.signature.specs.declared.Signature.{Signature}
 use Rattle.signature.specs.Signature.{maxLength, places, signatureFits, signatureOf}
 use Rattle.matcher.specs.Matcher.{fresh}

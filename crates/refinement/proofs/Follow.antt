@@ -27,8 +27,8 @@ use Rattle.matcher.specs.Matcher.{stageCount, noStage}
 use Rattle.matcher.specs.Stroke.{gapTo, entered, setsAside, allButLast, withSet, compared, ringing, promoted, promotedUnder, matches, tried}
 use Rattle.matcher.specs.declared.Walk.{Walk}
 use Rattle.matcher.specs.declared.Round.{Round}
-use Rattle.refinement.specs.Refinement.{agreeUnder, markAt, summary, readSet, readAnswer}
-use Rattle.sequence.proofs.Cases.{by-test}
+use Rattle.refinement.specs.Refinement.{agreeUnder, markIn, summary, readSet, readAnswer}
+use Rattle.lists.proofs.Cases.{by-test}
 use Rattle.refinement.proofs.Summary.{gapOf, gap-between, summary-entered, summary-aside}
 
 abbrev counted : ladder.Walk → ladder.Walk
@@ -78,7 +78,7 @@ module _ (c : Scene) where
   round =
       record {
         signature = record { length = length (c .pattern); key = c .key; prints = c .prints };
-        now = markAt (c .key) (c .history) (suc (c .t));
+        now = markIn (c .key) (c .history) (suc (c .t));
       }
 
   abbrev pub top : ℕ
@@ -88,7 +88,7 @@ module _ (c : Scene) where
   size i = prefixLength (length (c .pattern)) i
 
   abbrev pub mark : ℕ → Mark
-  mark s = markAt (c .key) (c .history) s
+  mark s = markIn (c .key) (c .history) s
 
   abbrev pub stored : List ℕ → Stage
   stored xs = summary (c .key) (c .history) xs

@@ -11,7 +11,7 @@ use Rattle.fingerprint.specs.declared.Key.{Key}
 use Rattle.ladder.specs.Ladder as ladder
 use Rattle.ladder.proofs.Starts.{Has, Ascending}
 use Rattle.ladder.proofs.Stages.{after-staged}
-use Rattle.sequence.proofs.Laws.{getD-tabulate}
+use Rattle.lists.proofs.Laws.{getD-tabulate}
 use Rattle.matcher.specs.declared.Stage.{Stage}
 use Rattle.matcher.specs.Matcher.{stageCount, noStage}
 use Rattle.matcher.specs.Stroke.{forward, alone, takenOff}

@@ -20,14 +20,14 @@ use Rattle.ladder.proofs.Grow.{after-append}
 use Rattle.ladder.proofs.Stages.{after-staged}
 use Rattle.ladder.proofs.Even.{after-even}
 use Rattle.ladder.proofs.Gaps.{after-alike}
-use Rattle.sequence.specs.Sequence.{tabulate}
-use Rattle.sequence.proofs.Laws.{length-tabulate, getD-tabulate, tabulated}
+use Rattle.lists.specs.Lists.{tabulate}
+use Rattle.lists.proofs.Laws.{length-tabulate, getD-tabulate, tabulated}
 use Rattle.signature.specs.Signature.{maxLength, signatureFits, signatureOf}
 use Rattle.matcher.specs.Matcher.{maxTaken, stageCount, noStage}
 use Rattle.matcher.specs.Stroke.{nextMark, walkedFrom, walked, strokeRefusal, strokeAnswer}
 use Rattle.matcher.specs.declared.Walk.{Walk}
-use Rattle.sequence.specs.Sequence.{Bytes}
-use Rattle.refinement.specs.Refinement.{agreeUnder, markAt, summary, watchOf, Refines}
+use Rattle.lists.specs.Lists.{Bytes}
+use Rattle.refinement.specs.Refinement.{agreeUnder, markIn, summary, watchOf, Refines}
 use Rattle.signature.proofs.Card.{card-prints, card-fits}
 use Rattle.refinement.proofs.Summary.{mark-grown, summary-grown}
 use Rattle.refinement.proofs.Follow.{Scene, top, Follows}
@@ -101,7 +101,7 @@ module _ (key : Key) (p : List ℕ) (card : signatureFits (signatureOf key p) �
     whole : take (suc (length h)) grown ≡ grown
     whole = take-all (suc (length h)) grown (omega (arith, grown-length))
 
-    next-mark : nextMark key (markAt key h (length h)) b ≡ markAt key grown (suc (length h))
+    next-mark : nextMark key (markIn key h (length h)) b ≡ markIn key grown (suc (length h))
     next-mark =
         ap (λ (f : Fingerprint). record { at = suc (length h); print = f })
         (rw (take-length h, whole) (sym (fp-push key h b)))
@@ -146,8 +146,8 @@ module _ (key : Key) (p : List ℕ) (card : signatureFits (signatureOf key p) �
         ≡ watchOf key p grown
     unfolding watchOf signatureOf
     watch-after =
-        let now : nextMark key (markAt key h (length h)) b ≡ markAt key grown (length grown) =
-        next-mark ∙ ap (markAt key grown) (sym grown-length)
+        let now : nextMark key (markIn key h (length h)) b ≡ markIn key grown (length grown) =
+        next-mark ∙ ap (markIn key grown) (sym grown-length)
         in
         λ i. record { signature = signatureOf key p; now = now i; stages = stages-after i }
 

@@ -22,9 +22,9 @@ use Rattle.ladder.proofs.Gaps.{Alike}
 use Rattle.matcher.specs.declared.Gap.{Gap}
 use Rattle.matcher.specs.Matcher.{sameGap}
 use Rattle.matcher.specs.Stroke.{alone, gapTo, forward, takenOff, entered, setsAside, allButLast}
-use Rattle.sequence.proofs.Cases.{by-test}
+use Rattle.lists.proofs.Cases.{by-test}
 use Rattle.matcher.proofs.Fit.{stage-by}
-use Rattle.refinement.specs.Refinement.{agreeUnder, markAt, summary, readSet}
+use Rattle.refinement.specs.Refinement.{agreeUnder, markIn, summary, readSet}
 
 last-snoc : (x : ℕ) (xs : List ℕ) (z : ℕ) → ladder.lastOf x (xs ++ z ∷ []) ≡ z
 unfolding ladder.lastOf
@@ -42,14 +42,14 @@ module _ (key : Key) (h : List ℕ) where
       ap (λ (n : ℕ). take n h) e ∙ take-add a (b - a) h
 
   -- The print of a gap comes from the prints at its ends.
-  pub gap-between : (a b : ℕ) → a ≤ b → b ≤ length h → gapTo key (markAt key h a) (markAt key h b) ≡ gapOf a b
+  pub gap-between : (a b : ℕ) → a ≤ b → b ≤ length h → gapTo key (markIn key h a) (markIn key h b) ≡ gapOf a b
   gap-between a b l r =
       let n : length (block h a (b - a)) ≡ b - a = block-length h a (b - a) (omega arith) in
       ap (λ (f : Fingerprint). record { length = b - a; print = f })
       (rw (take-block a b l) (rw n at (fp-cut key (take a h) (block h a (b - a)))))
 
   -- The print at the end of a gap comes from that at its begin and that of the gap.
-  pub forward-to : (a b : ℕ) → a ≤ b → b ≤ length h → forward key (markAt key h a) (gapOf a b) ≡ markAt key h b
+  pub forward-to : (a b : ℕ) → a ≤ b → b ≤ length h → forward key (markIn key h a) (gapOf a b) ≡ markIn key h b
   forward-to a b l r =
       let n : length (block h a (b - a)) ≡ b - a = block-length h a (b - a) (omega arith) in
       let at : a + (b - a) ≡ b = omega arith in
@@ -63,12 +63,12 @@ module _ (key : Key) (h : List ℕ) where
   summary-held x [] = refl
   summary-held x (y ∷ more) = refl
 
-  pub summary-first : (x : ℕ) (xs : List ℕ) → summary key h (x ∷ xs) .first ≡ markAt key h x
+  pub summary-first : (x : ℕ) (xs : List ℕ) → summary key h (x ∷ xs) .first ≡ markIn key h x
   unfolding summary
   summary-first x [] = refl
   summary-first x (y ∷ more) = refl
 
-  pub summary-last : (x : ℕ) (xs : List ℕ) → summary key h (x ∷ xs) .last ≡ markAt key h (ladder.lastOf x xs)
+  pub summary-last : (x : ℕ) (xs : List ℕ) → summary key h (x ∷ xs) .last ≡ markIn key h (ladder.lastOf x xs)
   unfolding summary ladder.lastOf
   summary-last x [] = refl
   summary-last x (y ∷ more) = refl
@@ -108,14 +108,14 @@ module _ (key : Key) (h : List ℕ) where
     same-step :
         (x y : ℕ) (more : List ℕ)
         → ladder.lastOf y more ≤ z
-        → sameGap (gapTo key (markAt key h (ladder.lastOf y more)) (markAt key h z)) (gapOf x y)
+        → sameGap (gapTo key (markIn key h (ladder.lastOf y more)) (markIn key h z)) (gapOf x y)
         ≡ ladder.continues (agreeUnder key) p h x y (ladder.lastOf y more) z
     same-step x y more l = ap (λ (g : Gap). sameGap g (gapOf x y)) (gap-between (ladder.lastOf y more) z l inside)
 
     pub summary-entered :
         (xs : List ℕ)
         → ((s : ℕ) → Has xs s → s ≤ z)
-        → entered key (summary key h xs) (markAt key h z) ≡ summary key h (entering xs .listed)
+        → entered key (summary key h xs) (markIn key h z) ≡ summary key h (entering xs .listed)
     unfolding entered summary ladder.enter ladder.lastOf
     summary-entered [] low = refl
     summary-entered (x ∷ []) low = stage-by refl refl refl (gap-between x z (low x (inl refl)) inside)
@@ -125,7 +125,7 @@ module _ (key : Key) (h : List ℕ) where
         by-test (ladder.continues (agreeUnder key) p h x y (ladder.lastOf y more) z)
         (λ e.
         rw (ne-eqb n 0 (omega arith), ne-eqb n 1 (omega arith), same-step x y more last, e, entered)
-        (stage-by (simp length-append (omega arith)) refl (ap (markAt key h) (sym (last-snoc y more z))) refl))
+        (stage-by (simp length-append (omega arith)) refl (ap (markIn key h) (sym (last-snoc y more z))) refl))
         (λ e.
         rw (ne-eqb n 0 (omega arith), ne-eqb n 1 (omega arith), same-step x y more last, e, entered)
         (stage-by refl refl refl (gap-between (ladder.lastOf y more) z last inside)))
@@ -134,7 +134,7 @@ module _ (key : Key) (h : List ℕ) where
         (xs : List ℕ)
         → ((s : ℕ) → Has xs s → s ≤ z)
         → map readSet
-        (cond (setsAside key (summary key h xs) (markAt key h z)) (allButLast (summary key h xs) ∷ []) [])
+        (cond (setsAside key (summary key h xs) (markIn key h z)) (allButLast (summary key h xs) ∷ []) [])
         ≡ entering xs .aside
     unfolding summary ladder.enter ladder.lastOf
     summary-aside [] low = refl
@@ -149,7 +149,7 @@ module _ (key : Key) (h : List ℕ) where
 
   -- With more bytes, what is stored of earlier places stays.
   module _ (u : List ℕ) where
-    pub mark-grown : (s : ℕ) → s ≤ length h → markAt key (h ++ u) s ≡ markAt key h s
+    pub mark-grown : (s : ℕ) → s ≤ length h → markIn key (h ++ u) s ≡ markIn key h s
     mark-grown s l = ap (λ (x : List ℕ). record { at = s; print = fp key x }) (take-append-le s h u l)
 
     block-grown : (s n : ℕ) → s + n ≤ length h → block (h ++ u) s n ≡ block h s n

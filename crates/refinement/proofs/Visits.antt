@@ -27,7 +27,7 @@ use Rattle.matcher.specs.Matcher.{stageCount, noStage}
 use Rattle.matcher.specs.Stroke.{takenOff, tried, ripe, visited, descended, noAnswer}
 use Rattle.matcher.specs.declared.Walk.{Walk}
 use Rattle.refinement.specs.Refinement.{agreeUnder, summary}
-use Rattle.sequence.proofs.Cases.{by-test}
+use Rattle.lists.proofs.Cases.{by-test}
 use Rattle.refinement.proofs.Summary.{summary-held, summary-first, summary-off}
 use Rattle.refinement.proofs.Follow.{Scene, round, top, size, mark, stored, comparing, Follows, more-follows, compare-follows}
 

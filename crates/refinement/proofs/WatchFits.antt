@@ -19,11 +19,11 @@ use Rattle.ladder.proofs.Starts.{has-last}
 use Rattle.ladder.proofs.Aged.{Aged}
 use Rattle.ladder.proofs.Stages.{after-staged}
 use Rattle.ladder.proofs.Even.{Even, even-last, after-even}
-use Rattle.sequence.specs.Sequence.{tabulate}
-use Rattle.sequence.proofs.Laws.{getD-tabulate}
+use Rattle.lists.specs.Lists.{tabulate}
+use Rattle.lists.proofs.Laws.{getD-tabulate}
 use Rattle.signature.specs.Signature.{maxLength, signatureFits, signatureOf}
 use Rattle.matcher.specs.Matcher.{stageCount, noStage, matcherFits, freshRefusal, blank, fresh}
-use Rattle.sequence.specs.Sequence.{Bytes}
+use Rattle.lists.specs.Lists.{Bytes}
 use Rattle.refinement.specs.Refinement.{agreeUnder, summary, watchOf}
 use Rattle.matcher.proofs.Fit.{Fit, idle, single, several}
 use Rattle.matcher.proofs.Sound.{sound-fits}

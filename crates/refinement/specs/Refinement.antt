@@ -9,7 +9,7 @@ use Rattle.fingerprint.specs.declared.Key.{Key}
 use Rattle.fingerprint.specs.Fingerprint.{same, fp}
 use Rattle.ladder.specs.Prefix.{block}
 use Rattle.ladder.specs.Ladder as ladder
-use Rattle.sequence.specs.Sequence.{tabulate}
+use Rattle.lists.specs.Lists.{tabulate}
 use Rattle.signature.specs.declared.Signature.{Signature}
 use Rattle.signature.specs.Signature.{signatureOf}
 use Rattle.matcher.specs.declared.Mark.{Mark}
@@ -27,18 +27,18 @@ abbrev pub agreeUnder : Key → List ℕ → List ℕ → Bool
 agreeUnder key u v = same (fp key u) (fp key v)
 
 -- A place in a history, with the fingerprint of the bytes before it.
-abbrev pub markAt : Key → List ℕ → ℕ → Mark
-markAt key h s = record { at = s; print = fp key (take s h) }
+abbrev pub markIn : Key → List ℕ → ℕ → Mark
+markIn key h s = record { at = s; print = fp key (take s h) }
 
 -- What a watch stores of a stage's starts: held, first, F_first, last, F_last, step, step print.
 unfoldable pub summary : Key → List ℕ → List ℕ → Stage
 summary key h [] = noStage
-summary key h (x ∷ []) = alone (markAt key h x)
+summary key h (x ∷ []) = alone (markIn key h x)
 summary key h (x ∷ y ∷ more) =
     record {
       held = suc (suc (length more));
-      first = markAt key h x;
-      last = markAt key h (ladder.lastOf y more);
+      first = markIn key h x;
+      last = markIn key h (ladder.lastOf y more);
       step = record { length = y - x; print = fp key (block h x (y - x)) };
     }
 
@@ -47,7 +47,7 @@ unfoldable pub watchOf : Key → List ℕ → List ℕ → Matcher
 watchOf key p h =
     record {
       signature = signatureOf key p;
-      now = markAt key h (length h);
+      now = markIn key h (length h);
       stages = tabulate (λ i. summary key h (ladder.after (agreeUnder key) p h (length h) i)) stageCount;
     }
 

@@ -12,13 +12,13 @@ use lib.ListN.{length, take, drop, length-append, length-drop, drop-of-length-le
 use lib.Seq.{drop-drop, take-all}
 use borrow.Author.Tests.{le-leb, ne-eqb}
 use Rattle.refusal.specs.Number.{number}
-use Rattle.listing.specs.Listing.{room}
-use Rattle.reporter.specs.declared.Progress.{Progress}
-use Rattle.reporter.specs.declared.Fed.{Fed}
-use Rattle.reporter.specs.Progress.{Heard, stopped, behind, heardWhile, heard, roomIn, fed}
-use Rattle.reporter.specs.Calls.{Feeds}
-use Rattle.reporter.proofs.Hearing.{heard-by, behind-behind, heard-moves, heard-within, heard-later, heard-none, heard-fits, heard-piece}
-use Rattle.reporter.proofs.Feeding.{fed-on}
+use Rattle.report_lines.specs.Lines.{room}
+use Rattle.report_core.specs.declared.Progress.{Progress}
+use Rattle.report_core.specs.declared.Fed.{Fed}
+use Rattle.report_core.specs.Progress.{Heard, stopped, behind, heardWhile, heard, roomIn, fed}
+use Rattle.report_core.specs.Calls.{Feeds}
+use Rattle.report_core.proofs.Hearing.{heard-by, behind-behind, heard-moves, heard-within, heard-later, heard-none, heard-fits, heard-piece}
+use Rattle.report_core.proofs.Feeding.{fed-on}
 use Rattle.report.specs.declared.State.{State}
 use Rattle.report.specs.State.{bufferSize, Sound, Took}
 

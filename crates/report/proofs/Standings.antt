@@ -11,15 +11,15 @@ use lib.ListN.{length, take, drop, length-drop}
 use lib.Seq.{length-take-le}
 use borrow.Author.Tests.{ltb-false}
 use Rattle.refusal.specs.Number.{number}
-use Rattle.sequence.proofs.Cases.{by-test}
-use Rattle.reporter.specs.declared.Progress.{Progress}
-use Rattle.reporter.specs.declared.Begun.{Begun}
-use Rattle.reporter.specs.Reporter.{cardBytes, output}
-use Rattle.reporter.specs.Progress.{heardWhile, heard}
-use Rattle.reporter.specs.Calls.{Begins}
-use Rattle.reporter.specs.Sent.{Sent, Whole, Partly}
-use Rattle.reporter.proofs.Hearing.{heard-later}
-use Rattle.reporter.proofs.Sending.{heard-all, sent-refused, sent-first, sent-more, sent-over, sent-partly}
+use Rattle.lists.proofs.Cases.{by-test}
+use Rattle.report_core.specs.declared.Progress.{Progress}
+use Rattle.report_core.specs.declared.Begun.{Begun}
+use Rattle.report_core.specs.Output.{cardBytes, output}
+use Rattle.report_core.specs.Progress.{heardWhile, heard}
+use Rattle.report_core.specs.Calls.{Begins}
+use Rattle.report_core.specs.Sent.{Sent, Whole, Partly}
+use Rattle.report_core.proofs.Hearing.{heard-later}
+use Rattle.report_core.proofs.Sending.{heard-all, sent-refused, sent-first, sent-more, sent-over, sent-partly}
 use Rattle.report.specs.declared.Status.{Status}
 use Rattle.report.specs.declared.Status.the-variants.{More, Ended, Unreadable, Unwritable}
 use Rattle.report.specs.declared.State.{State}

@@ -8,11 +8,11 @@ use mathlib.Core.List.{List}
 use lib.ListN.{length, take}
 use lib.Dec.{ltb}
 use Rattle.refusal.specs.Number.{number}
-use Rattle.reporter.specs.declared.Progress.{Progress}
-use Rattle.reporter.specs.Reporter.{cardBytes}
-use Rattle.reporter.specs.Progress.{progressFits, heard}
-use Rattle.reporter.specs.Calls.{lastLines}
-use Rattle.reporter.specs.Sent.{Sent, Whole, Partly}
+use Rattle.report_core.specs.declared.Progress.{Progress}
+use Rattle.report_core.specs.Output.{cardBytes}
+use Rattle.report_core.specs.Progress.{progressFits, heard}
+use Rattle.report_core.specs.Calls.{lastLines}
+use Rattle.report_core.specs.Sent.{Sent, Whole, Partly}
 use Rattle.report.specs.declared.Status.{Status}
 use Rattle.report.specs.declared.Status.the-variants.{More, Ended, Unreadable, Unwritable}
 use Rattle.report.specs.declared.State.{State}

@@ -5,19 +5,19 @@ ghost use Prim.Native.Nat.{_≤_, _*_};
 ghost use mathlib.Core.Path.{_≡_};
 ghost use lib.ListN.{length};
 ghost use Rattle.descriptor.specs.Reads.{Reads};
-ghost use Rattle.reporter.specs.Reporter.{cardBytes};
+ghost use Rattle.report_core.specs.Output.{cardBytes};
 ghost use Rattle.report.specs.declared.Status.the-variants.{More};
 ghost use Rattle.report.specs.State.{bufferSize, behindFront, Sound, Passed, Ready, Turned, Standing, Stands, Closed, Over};
 use descriptor::Got;
 use libc::STDIN_FILENO;
 use libc::STDOUT_FILENO;
-use listing::Put;
 use refusal::Verdict;
-use reporter::CARD_BYTES;
-use reporter::Progress;
-use reporter::begin;
-use reporter::feed;
-use reporter::finish;
+use report_core::CARD_BYTES;
+use report_core::Progress;
+use report_core::begin;
+use report_core::feed;
+use report_core::finish;
+use report_lines::Put;
 
 // More is to be read; or the input has ended or something was refused; or a read failed; or a write did.
 enum Status {

@@ -13,11 +13,11 @@ use Rattle.fingerprint.specs.Fingerprint.{p as modulus, keyFits, printFits, sam
 use Rattle.fingerprint.proofs.Laws.{by-value, fp-below}
 use Rattle.ladder.specs.Prefix.{levels, prefix}
 use Rattle.ladder.proofs.Levels.{levels-bound, first-length, length-within}
-use Rattle.sequence.proofs.Laws.{and-right, every-at, every-intro, getD-tabulate}
+use Rattle.lists.proofs.Laws.{and-right, every-at, every-intro, getD-tabulate}
 use Rattle.signature.specs.declared.Signature.{Signature}
 use Rattle.signature.specs.Signature.{maxLength, places, reached, placeFits, printsFit, signatureFits, signatureOf}
-use Rattle.sequence.specs.Sequence.{Bytes}
-use Rattle.sequence.proofs.Cases.{by-test, each}
+use Rattle.lists.specs.Lists.{Bytes}
+use Rattle.lists.proofs.Cases.{by-test, each}
 
 -- What a card that is no misfit says of itself.
 pub record SoundCard (s : Signature) : Type 0 where

@@ -7,8 +7,8 @@ use mathlib.Core.List.{List, [], _∷_}
 use lib.ListN.{getD}
 use lib.Dec.{eqb}
 use borrow.Author.Tests.{eqb-true}
-use Rattle.sequence.specs.Sequence.{every}
-use Rattle.sequence.proofs.Laws.{every-at}
+use Rattle.lists.specs.Lists.{every}
+use Rattle.lists.proofs.Laws.{every-at}
 
 abbrev powers : List ℕ
 powers =

@@ -1,3 +1,3 @@
 pub mod Signature
-pub mod Maker
+pub mod Calls
 pub mod Made

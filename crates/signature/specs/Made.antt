@@ -6,7 +6,7 @@ use lib.ListN.{length}
 use Rattle.fingerprint.specs.declared.Key.{Key}
 use Rattle.signature.specs.declared.Signature.{Signature}
 use Rattle.signature.specs.declared.Builder.{Builder}
-use Rattle.signature.specs.Maker.{beginRefusal, begun, pushRefusal, afterPush, finishRefusal, finished}
+use Rattle.signature.specs.Calls.{beginRefusal, begun, pushRefusal, afterPush, finishRefusal, finished}
 
 -- A list of the maker's calls, told m and the key, has taken these bytes and stands at this half-made card: "each call getting the
 -- half-made card that the last one handed back or left; refused calls in between count for nothing".

@@ -8,7 +8,7 @@ use Rattle.fingerprint.specs.declared.Key.{Key}
 use Rattle.fingerprint.specs.declared.Fingerprint.{Fingerprint}
 use Rattle.fingerprint.specs.Fingerprint.{keyFits, printFits, same, empty, fp}
 use Rattle.ladder.specs.Prefix.{levels, prefixLength, prefix}
-use Rattle.sequence.specs.Sequence.{every, tabulate}
+use Rattle.lists.specs.Lists.{every, tabulate}
 use Rattle.signature.specs.declared.Signature.{Signature}
 use Rattle.signature.specs.declared.Builder.{Builder}
 

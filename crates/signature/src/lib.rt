@@ -6,7 +6,7 @@ ghost use Rattle.fingerprint.specs.Fingerprint.{empty, same, printFits};
 ghost use Rattle.ladder.specs.Prefix.{levels, prefixLength};
 ghost use Rattle.refusal.specs.Number.{number};
 ghost use Rattle.signature.specs.Signature.{lengthFits, reached, printsFit, signatureFits, builderFits, nothingTaken, noSignature, stored};
-ghost use Rattle.signature.specs.Maker.{beginRefusal, begun, pushRefusal, afterPush, finishRefusal, finished};
+ghost use Rattle.signature.specs.Calls.{beginRefusal, begun, pushRefusal, afterPush, finishRefusal, finished};
 use fingerprint::Fingerprint;
 use fingerprint::Key;
 use refusal::Refusal;

@@ -9,7 +9,7 @@ use crate::tally::mix;
 use matcher::Answer;
 use matcher::Progression;
 use matcher::Ring;
-use naive::stages;
+use naive_search::stages;
 
 // A place of the answer's list of sets: a set if it counts, else nothing.
 fn account_set(

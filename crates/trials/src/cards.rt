@@ -3,7 +3,7 @@ use crate::bytes::front;
 use crate::bytes::short;
 use crate::tally::expect;
 use fingerprint::Key;
-use naive::print_of;
+use naive_search::print_of;
 use refusal::Verdict;
 use signature::Builder;
 use signature::Signature;

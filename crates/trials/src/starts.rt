@@ -12,9 +12,9 @@ use crate::tally::SETS;
 use crate::tally::add;
 use crate::tally::expect;
 use matcher::Progression;
-use naive::collides;
-use naive::occurs;
-use naive::print_of;
+use naive_search::collides;
+use naive_search::occurs;
+use naive_search::print_of;
 
 // What a start is marked with once it is reported; 0 before.
 const RUNG: u8 = 1;

@@ -15,11 +15,11 @@ use Rattle.matcher.specs.Matcher.{matcherFits}
 use Rattle.record.specs.Layout.{checkpointRecord}
 use Rattle.record.specs.Calls.{putRefusal, putUsed, putBuffer, saveUsed, saveBuffer, behindRefusal, behindBuffer}
 use Rattle.record.proofs.Sizes.{checkpoint-size}
-use Rattle.sequence.proofs.Cases.{by-test}
-use Rattle.whole_run.specs.Run.{Begins}
+use Rattle.lists.proofs.Cases.{by-test}
+use Rattle.whole_run.specs.Run.{BeginsWith}
 
 -- the buffer is the bytes that it begins with and a rest
-pub begins-rest : (bytes buffer : List ℕ) → Begins bytes buffer → buffer ≡ bytes ++ drop (length bytes) buffer
+pub begins-rest : (bytes buffer : List ℕ) → BeginsWith bytes buffer → buffer ≡ bytes ++ drop (length bytes) buffer
 begins-rest bytes buffer b = sym (take-append-drop (length bytes) buffer) ∙ ap (λ u. u ++ drop (length bytes) buffer) b
 
 -- "A writer fills the front of the part lent to it": with the record.

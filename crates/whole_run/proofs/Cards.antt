@@ -5,15 +5,15 @@ use mathlib.Core.Path.{_≡_}
 use mathlib.Core.List.{List}
 use lib.ListN.{length}
 use Rattle.fingerprint.specs.declared.Key.{Key}
-use Rattle.sequence.proofs.Laws.{length-tabulate}
+use Rattle.lists.proofs.Laws.{length-tabulate}
 use Rattle.signature.specs.declared.Signature.{Signature}
 use Rattle.signature.specs.Signature.{places, signatureFits, signatureOf}
-use Rattle.making.specs.Making.{MadeSignature}
-use Rattle.making.proofs.Made.{made-card}
+use Rattle.made_from.specs.MadeFrom.{MadeSignature}
+use Rattle.made_from.proofs.Made.{made-card}
 use Rattle.record.specs.Layout.{signatureRecord}
 use Rattle.record.specs.Calls.{readRefusal, readSignature}
 use Rattle.record.proofs.SignatureRoundTrip as round-trip
-use Rattle.whole_run.specs.Run.{Begins, CardOf, made, read-back}
+use Rattle.whole_run.specs.Run.{BeginsWith, CardOf, made, read-back}
 use Rattle.whole_run.proofs.Buffers.{begins-rest, put-front}
 
 sized : (key : Key) (p : List ℕ) (card : Signature) → card ≡ signatureOf key p → length (card .prints) ≡ places
@@ -25,7 +25,7 @@ pub same-card :
     {key : Key} {p : List ℕ} {card : Signature}
     → MadeSignature key p card
     → (buffer : List ℕ)
-    → Begins (signatureRecord card) buffer
+    → BeginsWith (signatureRecord card) buffer
     → (readRefusal buffer ≡ 0) × (readSignature buffer ≡ card)
 same-card {key} {p} {card} m buffer b =
     let n = sized key p card (m .state) in

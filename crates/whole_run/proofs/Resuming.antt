@@ -15,7 +15,7 @@ use Rattle.matcher.specs.Stroke.{strokeRefusal}
 use Rattle.record.specs.Layout.{checkpointRecord}
 use Rattle.record.specs.Calls.{saveRefusal, saveUsed, saveBuffer, behindRefusal, behindBuffer, restoreRefusal, restoredMatcher}
 use Rattle.whole_run.specs.History.{History, bytesOf}
-use Rattle.whole_run.specs.Run.{Begins, CardOf, Call, Run, Wrote}
+use Rattle.whole_run.specs.Run.{BeginsWith, CardOf, Call, Run, Wrote}
 use Rattle.whole_run.proofs.Buffers.{put-front, behind-front}
 use Rattle.whole_run.proofs.Cards.{card-of}
 use Rattle.whole_run.proofs.Tracks.{Tracks, never-misfit, run-tracks, wrote-tracks, resumed, takes-byte, spent}
@@ -27,7 +27,7 @@ module _ {key : Key} {p : List ℕ} {card : Signature} (c : CardOf key p card) w
 
   -- A record that a parking wrote earlier is not refused.
   pub never-refused :
-      {bytes : List ℕ} {h : History} → Wrote card bytes h → (buffer : List ℕ) → Begins bytes buffer → restoreRefusal card buffer ≡ 0
+      {bytes : List ℕ} {h : History} → Wrote card bytes h → (buffer : List ℕ) → BeginsWith bytes buffer → restoreRefusal card buffer ≡ 0
   never-refused {bytes} {h} wrote buffer b =
       let r = wrote-tracks c wrote in
       resumed c (bytesOf h) (r .faithful .within) buffer (rw (r .written) at b) .0
@@ -44,7 +44,7 @@ module _ {key : Key} {p : List ℕ} {card : Signature} (c : CardOf key p card) w
 
     same-record :
         (buffer : List ℕ)
-        → Begins (checkpointRecord w) buffer
+        → BeginsWith (checkpointRecord w) buffer
         → (restoreRefusal card buffer ≡ 0) × (restoredMatcher card buffer ≡ w)
     same-record buffer b =
         let back = resumed c (bytesOf h) (tracks .faithful .within) buffer (rw (tracks .watch) at b) in
@@ -53,7 +53,7 @@ module _ {key : Key} {p : List ℕ} {card : Signature} (c : CardOf key p card) w
     pub same-watch :
         (lent buffer : List ℕ)
         → saveRefusal w lent ≡ 0
-        → Begins (take (saveUsed w lent) (saveBuffer w lent)) buffer
+        → BeginsWith (take (saveUsed w lent) (saveBuffer w lent)) buffer
         → (restoreRefusal card buffer ≡ 0) × (restoredMatcher card buffer ≡ w)
     same-watch lent buffer e b =
         same-record buffer (rw (put-front (matcherFits w) (checkpointRecord w) lent e) at b)
@@ -61,7 +61,7 @@ module _ {key : Key} {p : List ℕ} {card : Signature} (c : CardOf key p card) w
     pub same-watch-behind :
         (lent : List ℕ) (used : ℕ) (buffer : List ℕ)
         → behindRefusal w lent used ≡ 0
-        → Begins (take (saveUsed w (drop used lent)) (drop used (behindBuffer w lent used))) buffer
+        → BeginsWith (take (saveUsed w (drop used lent)) (drop used (behindBuffer w lent used))) buffer
         → (restoreRefusal card buffer ≡ 0) × (restoredMatcher card buffer ≡ w)
     same-watch-behind lent used buffer e b = same-record buffer (rw (behind-front w lent used e) at b)
 

@@ -10,8 +10,8 @@ use lib.Dec.{eqb}
 use lib.ListN.{length, getD, take}
 use Rattle.fingerprint.specs.declared.Key.{Key}
 use Rattle.ladder.specs.Claim.{Claim}
-use Rattle.sequence.specs.Sequence.{Bytes}
-use Rattle.sequence.proofs.Cases.{by-test}
+use Rattle.lists.specs.Lists.{Bytes}
+use Rattle.lists.proofs.Cases.{by-test}
 use Rattle.signature.specs.declared.Signature.{Signature}
 use Rattle.matcher.specs.declared.Matcher.{Matcher}
 use Rattle.matcher.specs.Stroke.{strokeRefusal, strokeAnswer, afterStroke}

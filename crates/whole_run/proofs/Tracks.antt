@@ -10,9 +10,9 @@ use native.Mathlib.Omega.{arith}
 use lib.ListN.{length, take, drop}
 use borrow.Author.Tests.{ne-eqb}
 use Rattle.fingerprint.specs.declared.Key.{Key}
-use Rattle.sequence.proofs.Laws.{length-tabulate}
+use Rattle.lists.proofs.Laws.{length-tabulate}
 use Rattle.signature.specs.declared.Signature.{Signature}
-use Rattle.making.specs.Making.{MadeSignature}
+use Rattle.made_from.specs.MadeFrom.{MadeSignature}
 use Rattle.matcher.specs.declared.Matcher.{Matcher}
 use Rattle.matcher.specs.Matcher.{maxTaken, stageCount, matcherFits, fresh}
 use Rattle.matcher.specs.Stroke.{strokeRefusal, strokeAnswer, afterStroke}
@@ -24,7 +24,7 @@ use Rattle.record.specs.Calls.{saveRefusal, saveUsed, saveBuffer, behindRefusal
 use Rattle.record.proofs.CheckpointRoundTrip.{Shaped, restore-accepted, restore-back}
 use Rattle.whole_run.specs.History.{Taken, History, bytesOf}
 use Rattle.whole_run.specs.Run.{
-  Begins,
+  BeginsWith,
   CardOf,
   Call,
   Run,
@@ -69,7 +69,7 @@ module _ {key : Key} {p : List ℕ} {card : Signature} (c : CardOf key p card) w
       (h : List ℕ)
       → length h ≤ maxTaken
       → (buffer : List ℕ)
-      → Begins (checkpointRecord (watchOf key p h)) buffer
+      → BeginsWith (checkpointRecord (watchOf key p h)) buffer
       → (restoreRefusal card buffer ≡ 0) × (restoredMatcher card buffer ≡ watchOf key p h)
   unfolding watchOf
   resumed h l buffer b =
@@ -134,7 +134,7 @@ module _ {key : Key} {p : List ℕ} {card : Signature} (c : CardOf key p card) w
   resumed-tracks :
       {bytes : List ℕ} {h : History} (buffer : List ℕ)
       → Records key p bytes h
-      → Begins bytes buffer
+      → BeginsWith bytes buffer
       → Tracks key p (restoredMatcher card buffer) h
   resumed-tracks {bytes} {h} buffer r b =
       record { watch = resumed (bytesOf h) (r .faithful .within) buffer (rw (r .written) at b) .1; faithful = r .faithful }

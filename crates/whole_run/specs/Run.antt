@@ -26,8 +26,8 @@ use Rattle.record.specs.Calls.{
 use Rattle.whole_run.specs.History.{History}
 
 -- A buffer begins with these bytes.
-abbrev pub Begins : List ℕ → List ℕ → Type 0
-Begins bytes buffer = take (length bytes) buffer ≡ bytes
+abbrev pub BeginsWith : List ℕ → List ℕ → Type 0
+BeginsWith bytes buffer = take (length bytes) buffer ≡ bytes
 
 -- "A card is made from a passage if the maker .. gave this card .. The same card read from its record counts too": from a buffer that
 -- begins with the bytes that writing the card filled the front of another with.
@@ -39,7 +39,7 @@ pub data CardOf (key : Key) (p : List ℕ) : Signature → Type 0 where
       → (lent : List ℕ)
       → writeRefusal card lent ≡ 0
       → (buffer : List ℕ)
-      → Begins (take (writeUsed card lent) (writeBuffer card lent)) buffer
+      → BeginsWith (take (writeUsed card lent) (writeBuffer card lent)) buffer
       → readRefusal buffer ≡ 0
       → CardOf key p (readSignature buffer)
 
@@ -93,7 +93,7 @@ mutual
         {calls : List Call} {w : Matcher} {h : History} {bytes : List ℕ} {parked : History} (buffer : List ℕ)
         → Run card calls w h
         → Wrote card bytes parked
-        → Begins bytes buffer
+        → BeginsWith bytes buffer
         → restoreRefusal card buffer ≡ 0
         → Run card (calls ++ resume card buffer ∷ []) (restoredMatcher card buffer) parked
     refuses-resumption :

@@ -9,8 +9,8 @@ use Rattle.refusal.specs.Number.{number}
 use Rattle.refusal.proofs.Distinct.{refused-some}
 use Rattle.signature.specs.Signature.{signatureOf}
 use Rattle.record.specs.Layout.{signatureRecord}
-use Rattle.maker.specs.Maker.{cardRefusal}
-use Rattle.maker.proofs.Cards.{stands}
+use Rattle.card_core.specs.Card.{cardRefusal}
+use Rattle.card_core.proofs.Cards.{stands}
 use Rattle.card.specs.Outcome as outcome
 use borrow.Author.Needs.{needs}
 use Rattle.card.proofs.make_card.Statement.{statement}

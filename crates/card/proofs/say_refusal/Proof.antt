@@ -4,7 +4,7 @@ use mathlib.Core.Path.{sym, _∙_}
 use native.Mathlib.Omega.{arith}
 use lib.ListN.{length}
 use lib.Seq.{length-take-le}
-use Rattle.listing.proofs.Room.{next-within}
+use Rattle.report_lines.proofs.Room.{next-within}
 use borrow.Author.Needs.{needs}
 use Rattle.card.proofs.say_refusal.Statement.{statement}
 use Rattle.card.proofs.say_refusal.Tie as tie

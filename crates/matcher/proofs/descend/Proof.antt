@@ -6,7 +6,7 @@ use mathlib.Core.Bool.{true}
 use native.Mathlib.Numerals.{add-one}
 use native.Mathlib.Omega.{arith}
 use lib.ListN.{getD}
-use Rattle.sequence.proofs.Laws.{counted-elements}
+use Rattle.lists.proofs.Laws.{counted-elements}
 use Rattle.matcher.specs.Matcher.{noStage}
 use Rattle.matcher.specs.Stroke.{ripe, matches}
 use Rattle.matcher.proofs.Rounds.{Turn, turn-begin, turn-unripe, turn-dropped, turn-rung, turn-entered, turn-shift, turn-end, visited-small, room-above, ripe-held}

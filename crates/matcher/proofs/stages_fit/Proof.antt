@@ -4,8 +4,8 @@ use mathlib.Core.Path.{_≡_, sym, _∙_}
 use Prim.Native.Nat.{_-_, _≤_}
 use mathlib.Core.Bool.{true}
 use borrow.Author.Tests.{not-true, not-false}
-use Rattle.sequence.specs.Sequence.{every}
-use Rattle.sequence.proofs.Laws.{every-none, every-more, every-fails}
+use Rattle.lists.specs.Lists.{every}
+use Rattle.lists.proofs.Laws.{every-none, every-more, every-fails}
 use Rattle.matcher.specs.Matcher.{fitsAt}
 use native.Mathlib.Omega.{arith}
 use Rattle.matcher.proofs.stages_fit.Statement.{statement}

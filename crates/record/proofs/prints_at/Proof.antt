@@ -3,8 +3,8 @@ use Prim.Native.Nat.{_-_, _≤_}
 use mathlib.Core.Path.{_≡_, refl, _∙_}
 use native.Mathlib.Omega.{arith}
 use lib.ListN.{length, take, replicate, length-set}
-use Rattle.sequence.specs.Sequence.{tabulate}
-use Rattle.sequence.proofs.Laws.{fill-none, fill-more, fill-all}
+use Rattle.lists.specs.Lists.{tabulate}
+use Rattle.lists.proofs.Laws.{fill-none, fill-more, fill-all}
 use Rattle.record.specs.Layout.{signaturePlace}
 use borrow.Author.Needs.{needs}
 use Rattle.record.proofs.prints_at.Statement.{statement}

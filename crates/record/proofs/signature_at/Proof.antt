@@ -1,7 +1,7 @@
 -- `record::signature_at` meets its contract.
 use mathlib.Core.Path.{_≡_, _∙_}
 use Rattle.ladder.specs.Prefix.{levels}
-use Rattle.sequence.specs.Sequence.{tabulate}
+use Rattle.lists.specs.Lists.{tabulate}
 use Rattle.signature.specs.Signature.{places}
 use Rattle.record.specs.Layout.{wordAt, signaturePlace, signatureAt}
 use borrow.Author.Needs.{needs}

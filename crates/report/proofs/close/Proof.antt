@@ -4,11 +4,11 @@ use mathlib.Core.Path.{_≡_, refl, sym, _∙_, ap}
 use native.Mathlib.Omega.{arith}
 use lib.ListN.{length}
 use lib.Seq.{length-take-le}
-use Rattle.reporter.proofs.Putting.{PutAt, last-at}
+use Rattle.report_core.proofs.Putting.{PutAt, last-at}
 use Rattle.report.specs.State as state
 use Rattle.descriptor.proofs.Written.{all-written}
 use Rattle.refusal.specs.Number.{number}
-use Rattle.reporter.specs.Calls.{lastLines}
+use Rattle.report_core.specs.Calls.{lastLines}
 use borrow.Author.Needs.{needs}
 use Rattle.report.proofs.close.Statement.{statement}
 use Rattle.report.proofs.close.Tie as tie

@@ -6,7 +6,7 @@ use Rattle.report.proofs.Passing.{all-of}
 use Rattle.report.proofs.Standings.{opened-refused, opened}
 use Rattle.refusal.specs.Number.{number}
 use Rattle.refusal.proofs.Distinct.{refused-some}
-use Rattle.reporter.proofs.Sending.{taken-within, begun-fits}
+use Rattle.report_core.proofs.Sending.{taken-within, begun-fits}
 use borrow.Author.Needs.{needs}
 use Rattle.report.proofs.open.Statement.{statement}
 use Rattle.report.proofs.open.Tie as tie

@@ -8,8 +8,8 @@ use borrow.Author.Tests.{not-false}
 use Rattle.descriptor.proofs.Written.{all-written}
 use Rattle.refusal.specs.Number.{number}
 use Rattle.refusal.proofs.Distinct.{refused-some}
-use Rattle.reporter.specs.Progress.{fed}
-use Rattle.reporter.specs.Calls.{Feeds}
+use Rattle.report_core.specs.Progress.{fed}
+use Rattle.report_core.specs.Calls.{Feeds}
 use Rattle.report.specs.State.{bufferSize, unwritten, taken, refused}
 use Rattle.report.proofs.Passing as Passing
 use borrow.Author.Needs.{needs}

@@ -1,5 +1,5 @@
 use borrow.Author.Needs.{needs}
-use Rattle.sequence.proofs.Tests.{tests}
+use Rattle.lists.proofs.Tests.{tests}
 use Rattle.signature.proofs.length_fits.Statement.{statement}
 use Rattle.signature.proofs.length_fits.Tie as tie
 

@@ -4,8 +4,8 @@ use Prim.Native.Nat.{_-_, _≤_}
 use mathlib.Core.Path.{_≡_, sym, _∙_}
 use mathlib.Core.Bool.{true, false}
 use borrow.Author.Tests.{lt-leb, le-leb, not-true, not-false}
-use Rattle.sequence.specs.Sequence.{every}
-use Rattle.sequence.proofs.Laws.{every-more, every-fails, every-none}
+use Rattle.lists.specs.Lists.{every}
+use Rattle.lists.proofs.Laws.{every-more, every-fails, every-none}
 use Rattle.signature.specs.Signature.{placeFits, printsFit}
 use native.Mathlib.Omega.{arith}
 use Rattle.signature.proofs.prints_fit.Statement.{statement}

@@ -3,8 +3,8 @@ use borrow.Author.Needs.{needs}
 use Prim.Native.Nat.{_-_, _≤_}
 use mathlib.Core.Path.{_≡_, refl, _∙_}
 use lib.ListN.{length, take, replicate, length-set}
-use Rattle.sequence.specs.Sequence.{tabulate}
-use Rattle.sequence.proofs.Laws.{fill-none, fill-more, fill-all}
+use Rattle.lists.specs.Lists.{tabulate}
+use Rattle.lists.proofs.Laws.{fill-none, fill-more, fill-all}
 use Rattle.signature.specs.Signature.{storedAt, stored}
 use native.Mathlib.Omega.{arith}
 use Rattle.signature.proofs.store.Statement.{statement}

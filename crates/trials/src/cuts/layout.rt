@@ -8,7 +8,7 @@ use fingerprint::Fingerprint;
 use matcher::Mark;
 use matcher::Matcher;
 use matcher::Stage;
-use naive::stages;
+use naive_search::stages;
 use signature::Signature;
 
 // The size of a parked record: the length field and what it counts.

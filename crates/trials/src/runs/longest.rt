@@ -19,7 +19,7 @@ use fingerprint::Fingerprint;
 use fingerprint::Key;
 use matcher::Answer;
 use matcher::Matcher;
-use naive::more;
+use naive_search::more;
 use signature::Builder;
 use signature::Signature;
 

@@ -1,7 +1,7 @@
 -- `record::checkpoint::matcher_at` meets its contract.
 use mathlib.Core.Path.{_≡_, _∙_}
 use Rattle.ladder.specs.Prefix.{levels}
-use Rattle.sequence.specs.Sequence.{tabulate}
+use Rattle.lists.specs.Lists.{tabulate}
 use Rattle.matcher.specs.Matcher.{stageCount}
 use Rattle.record.specs.Layout.{stagePlace, matcherAt}
 use borrow.Author.Needs.{needs}

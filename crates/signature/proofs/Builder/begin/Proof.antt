@@ -2,7 +2,7 @@
 use borrow.Author.Needs.{needs}
 use mathlib.Core.Path.{refl}
 use borrow.Author.Tests.{eq-eqb, ne-eqb, lt-ltb, le-ltb, not-true, not-false}
-use Rattle.signature.specs.Maker.{begun}
+use Rattle.signature.specs.Calls.{begun}
 use Rattle.signature.proofs.Builder.begin.Statement.{statement}
 use Rattle.signature.proofs.Builder.begin.Tie as tie
 

@@ -2,7 +2,7 @@
 use borrow.Author.Needs.{needs}
 use mathlib.Core.Path.{refl}
 use borrow.Author.Tests.{lt-ltb, le-ltb, not-true, not-false}
-use Rattle.signature.specs.Maker.{finished}
+use Rattle.signature.specs.Calls.{finished}
 use Rattle.signature.proofs.Builder.finish.Statement.{statement}
 use Rattle.signature.proofs.Builder.finish.Tie as tie
 

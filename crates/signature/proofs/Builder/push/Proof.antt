@@ -3,7 +3,7 @@ use borrow.Author.Needs.{needs}
 use mathlib.Core.Path.{refl}
 use borrow.Author.Tests.{lt-ltb, le-ltb, not-true, not-false}
 use native.Mathlib.Numerals.{add-one}
-use Rattle.signature.specs.Maker.{afterPush}
+use Rattle.signature.specs.Calls.{afterPush}
 use Rattle.signature.proofs.Builder.push.Statement.{statement}
 use Rattle.signature.proofs.Builder.push.Tie as tie
 

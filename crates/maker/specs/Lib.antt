@@ -1,2 +1,0 @@
-pub mod Maker
-pub mod Argument

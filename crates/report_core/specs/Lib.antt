@@ -1,0 +1,4 @@
+pub mod Output
+pub mod Progress
+pub mod Calls
+pub mod Sent

@@ -1,4 +1,0 @@
-pub mod Reporter
-pub mod Progress
-pub mod Calls
-pub mod Sent
