@@ -7,7 +7,7 @@ use lib.Dec.{eqb}
 use Rattle.fingerprint.specs.declared.Key.{Key}
 use Rattle.fingerprint.specs.Fingerprint.{fp, same}
 use Rattle.ladder.specs.Prefix.{levels}
-use Rattle.ladder.specs.Ladder.{answerAt}
+use Rattle.ladder.specs.Ladder.{testsOf, answerAt}
 use Rattle.signature.specs.Signature.{signatureOf}
 use Rattle.signature.specs.Calls.{beginRefusal}
 use Rattle.matcher.specs.declared.Ring.{Ring}
@@ -49,7 +49,7 @@ ringNumber (some start) = suc start
 
 -- The ring at byte t of a stream, with p as passage and blocks compared by their fingerprints under a key.
 abbrev pub ringAt : Key → List ℕ → List ℕ → ℕ → ℕ
-ringAt k p stream t = ringNumber (answerAt (λ u v. same (fp k u) (fp k v)) p stream t .ring)
+ringAt k p stream t = ringNumber (answerAt (testsOf (λ u v. same (fp k u) (fp k v)) p) stream t .ring)
 
 -- The same of the ring that a stroke answers.
 abbrev pub strokeNumber : Ring → ℕ

@@ -24,6 +24,6 @@ pub run-both-readings :
     → (i : ℕ)
     → i < stageCount
     → getD (w .stages) i noStage .held ≡ 2
-    → takenOff key (getD (w .stages) i noStage) ≡ alone (getD (w .stages) i noStage .last)
+    → takenOff (card .key) (getD (w .stages) i noStage) ≡ alone (getD (w .stages) i noStage .last)
 run-both-readings key p card c {h = h} run i place =
-    rw (run-tracks c run .watch) (both-readings key p (card-of c .not-empty) (bytesOf h) i place)
+    rw (run-tracks c run .watch) (both-readings card (card-of c .fits) (bytesOf h) i place)

@@ -33,7 +33,7 @@ module _ {key : Key} {p : List ℕ} {card : Signature} (c : CardOf key p card) w
       resumed c (bytesOf h) (r .faithful .within) buffer (rw (r .written) at b) .0
 
   module _ {calls : List Call} {w : Matcher} {h : History} (run : Run card calls w h) where
-    tracks : Tracks key p w h
+    tracks : Tracks key p card w h
     tracks = run-tracks c run
 
     -- A parking is refused for want of space alone.
