@@ -1,4 +1,4 @@
--- `card_core::make` meets its contract: the maker is led through the passage byte by byte.
+-- `card_core::make` meets its contract: the builder is led through the passage byte by byte.
 use Prim.Native.Nat.{ℕ, _-_, _≤_}
 use mathlib.Core.Path.{_≡_, sym, _∙_, ap}
 use mathlib.Core.List.{List}
