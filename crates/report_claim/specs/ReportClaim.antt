@@ -11,7 +11,7 @@ use Rattle.matcher.specs.declared.Matcher.{Matcher}
 use Rattle.matcher.specs.Matcher.{maxTaken}
 use Rattle.record.specs.Calls.{readSignature, readTaken}
 use Rattle.refinement.specs.Refinement.{agreeUnder}
-use Rattle.whole_run.specs.History.{Taken, History, bytesOf, answersOf}
+use Rattle.whole_run.specs.History.{History, bytesOf, answersOf}
 use Rattle.whole_run.specs.Run.{Call, Run}
 use Rattle.whole_run.specs.Strokes.{totalOf}
 use Rattle.report_lines.specs.Lines.{lineX, lineE, reportLines}

@@ -23,7 +23,7 @@ pub const CARD_BYTES: usize = 98;
 pub const MOST_COMPARISONS: u64 = 21;
 
 // The room that a buffer must have for the last lines: they are two at the most, each with the room of one byte's lines.
-pub const LAST_ROOM: usize = 4096;
+pub const LAST_ROOM: usize = 2 * ROOM;
 
 // How far the program has come: the watch and all comparisons.
 pub struct Progress {

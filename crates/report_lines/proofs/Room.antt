@@ -1,4 +1,4 @@
--- The lines of one byte fit the room where every number is one that can be put; and the place behind lines that were put into a buffer lies within it.
+-- The lines of one byte fit the room where every number is one that can be put; the place behind lines in a buffer lies within it.
 -- Assumes nothing.
 use Prim.Native.Nat.{ℕ, suc, _+_, _*_, _≤_, _<_}
 use mathlib.Core.Path.{_≡_, refl, ap}
@@ -39,7 +39,11 @@ aside-length t a h n =
     simp length-append
     (omega (arith, item-length t h, item-length (a .first) (n .first), item-length (a .step) (n .step), item-length (a .many) (n .many)))
 
-ring-length : (t : ℕ) (ring : Ring) → t < putLimit → ((start : ℕ) → ring ≡ At start → start < putLimit) → length (ringLines t ring) ≤ mostLine
+ring-length :
+    (t : ℕ) (ring : Ring)
+    → t < putLimit
+    → ((start : ℕ) → ring ≡ At start → start < putLimit)
+    → length (ringLines t ring) ≤ mostLine
 unfolding line flatMap
 ring-length t Silent h k = omega arith
 ring-length t (At start) h k = simp length-append (omega (arith, item-length t h, item-length start (k start refl)))
