@@ -5,6 +5,7 @@ ghost use mathlib.Core.Path.{_≡_};
 ghost use lib.ListN.{length};
 ghost use Rattle.card_core.specs.Card.{overlong};
 ghost use Rattle.card.specs.Outcome.{Carded};
+use card_core::OVERLONG;
 use card_core::key_of;
 use card_core::write_card;
 use decimal::Parsed;
@@ -33,7 +34,10 @@ struct Outcome {
 }
 
 // One byte more than the longest passage, so that a longer one is seen.
-const PASSAGE_ROOM: usize = 1048577;
+const PASSAGE_ROOM: usize = OVERLONG as usize;
+
+// Room for an argument: more than the digits that are read, so that a longer one is seen.
+const ARGUMENT_ROOM: usize = 16;
 
 // The room of a passage.
 fn passage_buffer() -> [u8; PASSAGE_ROOM]
@@ -118,7 +122,7 @@ fn main() {
         complain();
         return;
     }
-    let mut text = [0u8; 16];
+    let mut text = [0u8; ARGUMENT_ROOM];
     let n = os::arg(1, &mut text);
     let argument = decimal::parse(&text[..n]);
     let Parsed::Number(number) = argument else {

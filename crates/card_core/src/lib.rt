@@ -17,7 +17,7 @@ use signature::Signature;
 const MOST_KEY: u32 = 4294967295;
 
 // One more than the longest passage.
-const OVERLONG: u32 = MAX_LENGTH + 1;
+pub const OVERLONG: u32 = MAX_LENGTH + 1;
 
 // The number in a key's field: the largest that fits stands for every number above.
 fn field(n: u64) -> u32

@@ -4,7 +4,7 @@ ghost use lib.ListN.{length};
 ghost use Rattle.decimal.specs.Decimal.{decimal, parsed, placeBehind, bufferWith};
 
 // The most digits that are read.
-pub const MOST_READ: usize = 10;
+const MOST_READ: usize = 10;
 
 // What a text says: a number, or none.
 pub enum Parsed {

@@ -50,7 +50,7 @@ module _ (entry : List ℕ) (at : ℕ) (lines : List ℕ) where
     unfolding placed
     placed-next = rw (le-leb (at + room) (length entry) r)
 
-    pub put-done : (exit : List ℕ) → exit ≡ written entry at lines → PutAt entry at lines (at + length lines) exit
+    put-done : (exit : List ℕ) → exit ≡ written entry at lines → PutAt entry at lines (at + length lines) exit
     unfolding written
     put-done exit w = laid exit (omega arith) (rw (le-leb (at + room) (length entry) r) at w)
 
@@ -94,7 +94,7 @@ module _ (entry : List ℕ) (at : ℕ) (lines : List ℕ) where
       ]
 
 -- more lines behind the first
-pub put-again :
+put-again :
     (entry : List ℕ) (at : ℕ) (first second : List ℕ) (n end : ℕ) (middle exit : List ℕ)
     → PutAt entry at first n middle
     → PutAt middle n second end exit

@@ -83,7 +83,7 @@ module _ (s : List ℕ) where
       (λ f. absurd (omega (arith, rw (accepted-head e, f) at e)))
 
 -- t is 0 at a fresh watch
-pub fresh-origin : (s : Signature) → fresh s .now .at ≡ 0
+fresh-origin : (s : Signature) → fresh s .now .at ≡ 0
 unfolding fresh
 fresh-origin s = by-test (eqb (freshRefusal s) 0) (λ e. rw (e, fresh)) (λ e. rw (e, fresh))
 
