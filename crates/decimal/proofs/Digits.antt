@@ -8,7 +8,7 @@ use native.Mathlib.Decide.{decLe}
 use native.Mathlib.Omega.{arith}
 use lib.ListN.{length, length-append}
 use borrow.Author.Tests.{lt-ltb, le-ltb}
-use Rattle.report_lines.specs.Lines.{digit, digits, decimal}
+use Rattle.decimal.specs.Decimal.{digit, digits, decimal, putLimit, mostPut}
 
 digits-one : (f n : ℕ) → n < 10 → digits (suc f) n ≡ digit n ∷ []
 unfolding digits
@@ -40,6 +40,14 @@ decimal-more n h = rw (digits-more n n h, digits-fuel n (suc (n / 10)) (n / 10) 
 pub length-more : (n : ℕ) → 10 ≤ n → length (decimal n) ≡ length (decimal (n / 10)) + 1
 length-more n h = rw (decimal-more n h, length-append)
 
+-- there is a digit
+pub decimal-some : (n : ℕ) → 1 ≤ length (decimal n)
+decimal-some n =
+    elim (decLe 10 n) [
+      | yes k ↦ omega (arith, length-more n k)
+      | no k ↦ rw (decimal-one n (lt-of-not-le k)) (omega arith)
+    ]
+
 -- a number below 10^(k+1) has at most k + 1 digits
 pub decimal-length : (k n : ℕ) → n < 10 ^ suc k → length (decimal n) ≤ suc k
 decimal-length zero n h = rw (decimal-one n (omega arith)) (omega arith)
@@ -48,3 +56,6 @@ decimal-length (suc k) n h =
       | yes m ↦ omega (arith, length-more n m, decimal-length k (n / 10) (omega arith))
       | no m ↦ rw (decimal-one n (lt-of-not-le m)) (omega arith)
     ]
+
+pub put-length : (n : ℕ) → n < putLimit → length (decimal n) ≤ mostPut
+put-length n h = decimal-length 19 n (omega arith)

@@ -1,12 +1,12 @@
--- `report_lines::digit_count` meets its contract: the digits counted and those of the rest are those of n, and one digit more.
+-- `decimal::digit_count` meets its contract: the digits counted and those of the rest are those of n, and one digit more.
 use Prim.Native.Nat.{_+_}
 use mathlib.Core.Path.{_≡_, ap}
 use native.Mathlib.Omega.{arith}
 use lib.ListN.{length}
-use Rattle.report_lines.specs.Lines.{decimal}
-use Rattle.report_lines.proofs.Decimal.{decimal-one, decimal-length, length-more}
-use Rattle.report_lines.proofs.digit_count.Statement.{statement}
-use Rattle.report_lines.proofs.digit_count.Tie as tie
+use Rattle.decimal.specs.Decimal.{decimal}
+use Rattle.decimal.proofs.Digits.{decimal-one, put-length, length-more}
+use Rattle.decimal.proofs.digit_count.Statement.{statement}
+use Rattle.decimal.proofs.digit_count.Tie as tie
 
 abbrev Inv-loop : tie.InvT-loop
 Inv-loop n rest₀ count₀ rest count = count + length (decimal rest) ≡ length (decimal n) + 1
@@ -18,7 +18,7 @@ loop-holds : tie.Need-loop-holds Inv-loop μ-loop
 loop-holds c = omega arith
 
 add-count : tie.Need-add-count Inv-loop μ-loop
-add-count c = omega (arith, decimal-length 19 (c .before .before .args .n) (omega arith))
+add-count c = omega (arith, put-length (c .before .before .args .n) (omega arith))
 
 loop-less : tie.Need-loop-less Inv-loop μ-loop
 loop-less c = omega arith

@@ -1,13 +1,13 @@
--- `card_core::parse` meets its contract: the digits passed make the value so far.
+-- `decimal::parse` meets its contract: the digits passed make the value so far.
 use Prim.Native.Nat.{_+_, _-_, _*_, _^_, _<_}
 use mathlib.Core.Path.{_≡_, sym, _∙_}
 use native.Mathlib.Omega.{arith}
 use borrow.Author.Needs.{needs}
 use lib.ListN.{length, getD}
-use Rattle.card_core.specs.Argument.{parsed, digitsFrom}
-use Rattle.card_core.proofs.Digits.{Read, read-none, read-all, read-bad, read-more, fits, low, high, too-short, too-long, good-length}
-use Rattle.card_core.proofs.parse.Statement.{statement}
-use Rattle.card_core.proofs.parse.Tie as tie
+use Rattle.decimal.specs.Decimal.{parsedFrom, mostRead, parsed}
+use Rattle.decimal.proofs.Reading.{Read, read-none, read-all, read-bad, read-more, fits, low, high, too-short, too-long, good-length}
+use Rattle.decimal.proofs.parse.Statement.{statement}
+use Rattle.decimal.proofs.parse.Tie as tie
 
 abbrev Inv-loop : tie.InvT-loop
 Inv-loop text value₀ i₀ value i = Read text value i
@@ -15,15 +15,15 @@ Inv-loop text value₀ i₀ value i = Read text value i
 abbrev μ-loop : tie.MeasureT-loop
 μ-loop text value₀ i₀ value i = length text - i
 
--- the argument has one digit to ten
-digits : (c : tie.Else2 Inv-loop μ-loop) → parsed (c .before .before .args .text .now) ≡ digitsFrom 0 (c .before .before .args .text .now)
-digits c = good-length _ (c .before .if1 .left) (c .if2 .left)
+-- the text has one digit to ten
+digits : (c : tie.Else2 Inv-loop μ-loop) → parsed (c .before .before .args .text .now) ≡ parsedFrom 0 (c .before .before .args .text .now)
+digits c = good-length _ _ (c .before .if1 .left) (c .if2 .left)
 
 returns : tie.Need-returns Inv-loop μ-loop
-returns c = sym (too-short _ (c .if1 .taken))
+returns c = sym (too-short _ _ (c .if1 .taken))
 
 returns-2 : tie.Need-returns-2 Inv-loop μ-loop
-returns-2 c = sym (too-long _ (c .if2 .taken))
+returns-2 c = sym (too-long _ _ (c .if2 .taken))
 
 loop-holds : tie.Need-loop-holds Inv-loop μ-loop
 loop-holds c = read-none _
@@ -48,7 +48,7 @@ room :
     10 * l .loop .value + (getD (l .before .before .before .args .text .now) (l .loop .i) 0 - 48) < 2 ^ 64
 room c =
     let t = c .before .before .before in
-    fits _ _ _ (t .before .loop .inv) (t .loop-test .taken) (t .before .before .if2 .left) (omega arith)
+    fits _ _ _ (t .before .loop .inv) (t .loop-test .taken) mostRead (omega arith) (t .before .before .if2 .left) (omega arith)
 
 mul-value : tie.Need-mul-value Inv-loop μ-loop
 mul-value c = omega (arith, room c)
