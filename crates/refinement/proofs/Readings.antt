@@ -12,9 +12,9 @@ use Rattle.ladder.specs.Ladder as ladder
 use Rattle.ladder.proofs.Starts.{Has, Ascending}
 use Rattle.ladder.proofs.Stages.{after-staged}
 use Rattle.lists.proofs.Laws.{getD-tabulate}
-use Rattle.matcher.specs.declared.Stage.{Stage}
-use Rattle.matcher.specs.Matcher.{stageCount, noStage}
-use Rattle.matcher.specs.Stroke.{forward, alone, takenOff}
+use Rattle.stage.specs.declared.Stage.{Stage}
+use Rattle.stage.specs.Stage.{noStage, forward, alone, takenOff}
+use Rattle.stage.specs.Stages.{stageCount}
 use Rattle.refinement.specs.Refinement.{agreeUnder, summary, watchOf}
 use Rattle.refinement.proofs.Summary.{forward-to}
 

@@ -23,7 +23,8 @@ use Rattle.ladder.proofs.Gaps.{after-alike}
 use Rattle.lists.specs.Lists.{tabulate}
 use Rattle.lists.proofs.Laws.{length-tabulate, getD-tabulate, tabulated}
 use Rattle.signature.specs.Signature.{maxLength, signatureFits, signatureOf}
-use Rattle.matcher.specs.Matcher.{maxTaken, stageCount, noStage}
+use Rattle.stage.specs.Stage.{maxTaken, noStage}
+use Rattle.stage.specs.Stages.{stageCount}
 use Rattle.matcher.specs.Stroke.{nextMark, walkedFrom, walked, strokeRefusal, strokeAnswer}
 use Rattle.matcher.specs.declared.Walk.{Walk}
 use Rattle.lists.specs.Lists.{Bytes}

@@ -22,10 +22,12 @@ use Rattle.ladder.proofs.Even.{Even, even-last, after-even}
 use Rattle.lists.specs.Lists.{tabulate}
 use Rattle.lists.proofs.Laws.{getD-tabulate}
 use Rattle.signature.specs.Signature.{maxLength, signatureFits, signatureOf}
-use Rattle.matcher.specs.Matcher.{stageCount, noStage, matcherFits, freshRefusal, blank, fresh}
+use Rattle.stage.specs.Stage.{noStage}
+use Rattle.stage.specs.Stages.{stageCount}
+use Rattle.matcher.specs.Matcher.{matcherFits, freshRefusal, blank, fresh}
 use Rattle.lists.specs.Lists.{Bytes}
 use Rattle.refinement.specs.Refinement.{agreeUnder, summary, watchOf}
-use Rattle.matcher.proofs.Fit.{Fit, idle, single, several}
+use Rattle.stage.proofs.Fit.{Fit, idle, single, several}
 use Rattle.matcher.proofs.Sound.{sound-fits}
 use Rattle.signature.proofs.Card.{sound-card, card-fits}
 

@@ -19,7 +19,7 @@ ghost use Rattle.report_lines.specs.Lines.{
 };
 ghost use Rattle.report_lines.specs.Stored.{mostDigits, mostItem, mostLine, Stored};
 use matcher::Answer;
-use matcher::Progression;
+use stage::Progression;
 use matcher::Ring;
 
 // The room that a buffer must have from the place on, whatever is to be put there: the lines of one byte are never longer.
