@@ -10,8 +10,9 @@ use Rattle.ladder.specs.Prefix.{leastFrom, levels}
 use Rattle.ladder.specs.Ladder.{lists, without, lastOf, enter, promote, compare, visit, descend, step, after, answerAt}
 use Rattle.lists.specs.Lists.{every, tabulate}
 use Rattle.signature.specs.Signature.{printsFit, signatureFits, signatureOf}
-use Rattle.matcher.specs.Matcher.{noneFits, oneFits, manyFit, stageFits, matcherFits, fresh}
-use Rattle.matcher.specs.Stroke.{takenOff, entered, promotedUnder, tried, visited, descended, walkedFrom, strokeAnswer, afterStroke}
+use Rattle.stage.specs.Stage.{noneFits, oneFits, manyFit, stageFits, takenOff, entered}
+use Rattle.matcher.specs.Matcher.{matcherFits, fresh}
+use Rattle.matcher.specs.Stroke.{promotedUnder, tried, visited, descended, walkedFrom, strokeAnswer, afterStroke}
 use Rattle.edge_cases.specs.EdgeCases.{Case, struckRing, sameBytes, cases}
 
 -- one test over the list: in each case got is want
