@@ -5,7 +5,7 @@ use mathlib.Core.List.{List, [], _∷_, List·Memᴰ, List·Memᴰ·head, List·
 use lib.Dec.{eqb}
 use borrow.Author.Tests.{eqb-true}
 use Rattle.lists.proofs.Laws.{and-left, and-right}
-use Rattle.fingerprint.specs.Fingerprint.{extended}
+use Rattle.fingerprint.specs.Fingerprint.{keyFits, printFits, same, isBytePrint, extended}
 use Rattle.ladder.specs.Prefix.{leastFrom, levels}
 use Rattle.ladder.specs.Ladder.{lists, without, lastOf, enter, promote, compare, visit, descend, step, after, answerAt}
 use Rattle.lists.specs.Lists.{every, tabulate}
@@ -31,5 +31,5 @@ each-holds (List·Memᴰ·tail {x = d} {xs = more} m) h =
 
 -- Every case of the list holds.
 pub cases-hold : (c : Case) → List·Memᴰ c cases → c .got ≡ c .want
-unfolding allHold cases struckRing sameBytes extended leastFrom levels lists without lastOf enter promote compare visit descend step after answerAt every tabulate printsFit signatureFits signatureOf noneFits oneFits manyFit stageFits matcherFits fresh takenOff entered promotedUnder tried visited descended walkedFrom strokeAnswer afterStroke
+unfolding allHold cases struckRing sameBytes keyFits printFits same isBytePrint extended leastFrom levels lists without lastOf enter promote compare visit descend step after answerAt every tabulate printsFit signatureFits signatureOf noneFits oneFits manyFit stageFits matcherFits fresh takenOff entered promotedUnder tried visited descended walkedFrom strokeAnswer afterStroke
 cases-hold c m = each-holds m refl

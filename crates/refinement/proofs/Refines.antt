@@ -2,18 +2,18 @@
 -- longer history, and the answer reads as the ladder's.
 -- Assumes nothing.
 use Prim.Native.Nat.{ℕ, suc, _+_, _≤_, _<_}
-use mathlib.Core.Path.{_≡_, refl, sym, _∙_, ap}
+use mathlib.Core.Path.{_≡_, sym, _∙_, ap}
 use mathlib.Core.Bool.{true}
 use mathlib.Core.List.{List, [], _∷_, _++_}
 use native.Mathlib.Numerals.{add-one}
 use native.Mathlib.Omega.{arith}
 use lib.ListN.{length, getD, take, length-append}
 use lib.Seq.{take-length, take-all}
-use borrow.Author.Tests.{eqb-true, eq-eqb, lt-ltb}
+use borrow.Author.Tests.{lt-ltb}
 use Rattle.fingerprint.specs.declared.Key.{Key}
 use Rattle.fingerprint.specs.declared.Fingerprint.{Fingerprint}
-use Rattle.fingerprint.specs.Fingerprint.{fp}
-use Rattle.fingerprint.proofs.Laws.{fp-push}
+use Rattle.fingerprint.specs.Fingerprint.{agreeUnder}
+use Rattle.fingerprint.proofs.Laws.{fp-push, agree-self, agree-back, agree-on}
 use Rattle.ladder.specs.Ladder as ladder
 use Rattle.ladder.proofs.Levels.{levels-bound}
 use Rattle.ladder.proofs.Grow.{after-append}
@@ -27,7 +27,7 @@ use Rattle.signature.specs.Signature.{signatureFits}
 use Rattle.matcher.specs.Matcher.{maxTaken, stageCount, noStage}
 use Rattle.matcher.specs.Stroke.{nextMark, walkedFrom, walked, strokeRefusal, strokeAnswer}
 use Rattle.matcher.specs.declared.Walk.{Walk}
-use Rattle.refinement.specs.Refinement.{agreeUnder, cardTests, markIn, summary, watchOf, Refines}
+use Rattle.refinement.specs.Refinement.{cardTests, markIn, summary, watchOf, Refines}
 use Rattle.signature.proofs.Card.{SoundCard, sound-card}
 use Rattle.refinement.proofs.Summary.{mark-grown, summary-grown}
 use Rattle.refinement.proofs.Follow.{Scene, top, Follows}
@@ -36,22 +36,8 @@ use Rattle.matcher.proofs.Sound.{after-taken}
 use Rattle.refinement.proofs.WatchFits.{fits}
 
 -- To have one fingerprint is an equivalence.
-module _ (key : Key) where
-  abbrev value : List ℕ → ℕ
-  value u = fp key u .value
-
-  pub agree-same : (u : List ℕ) → agreeUnder key u u ≡ true
-  agree-same u = eq-eqb (value u) (value u) refl
-
-  by-print : Equivalence (agreeUnder key)
-  by-print =
-      record {
-        self = agree-same;
-        back = λ u v e. eq-eqb (value v) (value u) (sym (eqb-true (value u) (value v) e));
-        on =
-            λ u v x e f.
-            eq-eqb (value u) (value x) (eqb-true (value u) (value v) e ∙ eqb-true (value v) (value x) f);
-      }
+by-print : (key : Key) → Equivalence (agreeUnder key)
+by-print key = record { self = agree-self key; back = agree-back key; on = agree-on key }
 
 module _ (card : Signature) (card-fits : signatureFits card ≡ true) where
   abbrev key : Key

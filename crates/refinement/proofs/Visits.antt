@@ -12,6 +12,7 @@ use lib.Dec.{eqb}
 use lib.ListN.{length, getD, set, length-set}
 use lib.Seq.{getD-set-same, getD-set-other}
 use borrow.Author.Tests.{eq-eqb, ne-eqb}
+use Rattle.fingerprint.specs.Fingerprint.{agreeUnder}
 use Rattle.ladder.specs.Prefix.{block}
 use Rattle.ladder.specs.Ladder as ladder
 use Rattle.ladder.proofs.Byte.{Byte, rest, due, tested}
@@ -26,7 +27,7 @@ use Rattle.matcher.specs.declared.Stage.{Stage}
 use Rattle.matcher.specs.Matcher.{stageCount, noStage}
 use Rattle.matcher.specs.Stroke.{takenOff, tried, ripe, visited, descended, noAnswer}
 use Rattle.matcher.specs.declared.Walk.{Walk}
-use Rattle.refinement.specs.Refinement.{agreeUnder, cardTests, summary}
+use Rattle.refinement.specs.Refinement.{cardTests, summary}
 use Rattle.lists.proofs.Cases.{by-test}
 use Rattle.refinement.proofs.Summary.{summary-held, summary-first, summary-off}
 use Rattle.refinement.proofs.Follow.{Scene, round, top, size, mark, stored, comparing, Follows, more-follows, compare-follows}

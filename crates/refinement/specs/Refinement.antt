@@ -1,12 +1,11 @@
 -- What a watch stores of a history, and how its answers read as those of the ladder with unlimited lists.
 use Prim.Native.Nat.{ℕ, suc, _+_, _-_}
 use mathlib.Core.Path.{_≡_}
-use mathlib.Core.Bool.{Bool}
 use mathlib.Core.List.{List, [], _∷_, _++_, map}
 use mathlib.Core.Option.{Option, none, some}
 use lib.ListN.{length, take, getD}
 use Rattle.fingerprint.specs.declared.Key.{Key}
-use Rattle.fingerprint.specs.Fingerprint.{same, empty, fp}
+use Rattle.fingerprint.specs.Fingerprint.{same, empty, fp, agreeUnder}
 use Rattle.ladder.specs.Prefix.{block}
 use Rattle.ladder.specs.Ladder as ladder
 use Rattle.lists.specs.Lists.{tabulate}
@@ -20,10 +19,6 @@ use Rattle.matcher.specs.declared.Progression.{Progression}
 use Rattle.matcher.specs.declared.Answer.{Answer}
 use Rattle.matcher.specs.Matcher.{stageCount, noStage}
 use Rattle.matcher.specs.Stroke.{alone, strokeRefusal, strokeAnswer, afterStroke}
-
--- The ladder's test of two blocks: whether their fingerprints under the key are equal.
-abbrev pub agreeUnder : Key → List ℕ → List ℕ → Bool
-agreeUnder key u v = same (fp key u) (fp key v)
 
 -- A place in a history, with the fingerprint of the bytes before it.
 abbrev pub markIn : Key → List ℕ → ℕ → Mark
