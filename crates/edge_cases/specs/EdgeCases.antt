@@ -5,7 +5,7 @@ use mathlib.Core.List.{List, [], _∷_}
 use mathlib.Core.Option.{Option, none, some}
 use lib.Dec.{eqb}
 use Rattle.fingerprint.specs.declared.Key.{Key}
-use Rattle.fingerprint.specs.Fingerprint.{fp, agreeUnder, numberedKey, printNumber}
+use Rattle.fingerprint.specs.Fingerprint.{fp, same, numberedKey, printNumber}
 use Rattle.ladder.specs.Prefix.{levels}
 use Rattle.ladder.specs.Ladder.{testsOf, answerAt}
 use Rattle.signature.specs.Signature.{signatureOf}
@@ -49,7 +49,7 @@ ringNumber (some start) = suc start
 
 -- The ring at byte t of a stream, with p as passage and blocks compared by their fingerprints under a key.
 abbrev pub ringAt : Key → List ℕ → List ℕ → ℕ → ℕ
-ringAt k p stream t = ringNumber (answerAt (testsOf (agreeUnder k) p) stream t .ring)
+ringAt k p stream t = ringNumber (answerAt (testsOf (λ u v. same (fp k u) (fp k v)) p) stream t .ring)
 
 -- The same of the ring that a stroke answers.
 abbrev pub strokeNumber : Ring → ℕ

@@ -17,13 +17,14 @@ use Rattle.ladder.specs.Prefix.{block, levels, prefixLength}
 use Rattle.ladder.specs.Ladder as ladder
 use Rattle.ladder.proofs.Starts.{Has}
 use Rattle.signature.specs.declared.Signature.{Signature}
-use Rattle.matcher.specs.declared.Mark.{Mark}
-use Rattle.matcher.specs.declared.Gap.{Gap}
-use Rattle.matcher.specs.declared.Stage.{Stage}
+use Rattle.stage.specs.declared.Mark.{Mark}
+use Rattle.stage.specs.declared.Gap.{Gap}
+use Rattle.stage.specs.declared.Stage.{Stage}
 use Rattle.matcher.specs.declared.Answer.{Answer}
-use Rattle.matcher.specs.declared.Progression.{Progression}
-use Rattle.matcher.specs.Matcher.{stageCount, noStage}
-use Rattle.matcher.specs.Stroke.{gapTo, entered, setsAside, allButLast, withSet, compared, ringing, promoted, promotedUnder, matches, tried}
+use Rattle.stage.specs.declared.Progression.{Progression}
+use Rattle.stage.specs.Stage.{noStage, gapTo, entered, setsAside, allButLast}
+use Rattle.stage.specs.Stages.{stageCount}
+use Rattle.matcher.specs.Stroke.{withSet, compared, ringing, promoted, promotedUnder, matches, tried}
 use Rattle.matcher.specs.declared.Walk.{Walk}
 use Rattle.matcher.specs.declared.Round.{Round}
 use Rattle.refinement.specs.Refinement.{cardTests, markIn, summary, readSet, readAnswer}

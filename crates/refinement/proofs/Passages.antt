@@ -15,7 +15,7 @@ use Rattle.ladder.proofs.Verdicts.{SameVerdicts, after-same, answer-same}
 use Rattle.signature.specs.declared.Signature.{Signature}
 use Rattle.signature.specs.Signature.{maxLength, signatureFits, signatureOf}
 use Rattle.signature.proofs.Card.{sound-card, card-prints}
-use Rattle.matcher.specs.Matcher.{maxTaken}
+use Rattle.stage.specs.Stage.{maxTaken}
 use Rattle.refinement.specs.Refinement.{passageTests, cardTests, Refines}
 use Rattle.refinement.proofs.Refines.{refines}
 

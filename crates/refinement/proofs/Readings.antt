@@ -16,9 +16,9 @@ use Rattle.lists.proofs.Laws.{getD-tabulate}
 use Rattle.signature.specs.declared.Signature.{Signature}
 use Rattle.signature.specs.Signature.{signatureFits}
 use Rattle.signature.proofs.Card.{sound-card}
-use Rattle.matcher.specs.declared.Stage.{Stage}
-use Rattle.matcher.specs.Matcher.{stageCount, noStage}
-use Rattle.matcher.specs.Stroke.{forward, alone, takenOff}
+use Rattle.stage.specs.declared.Stage.{Stage}
+use Rattle.stage.specs.Stages.{stageCount}
+use Rattle.stage.specs.Stage.{noStage, forward, alone, takenOff}
 use Rattle.refinement.specs.Refinement.{cardTests, summary, watchOf}
 use Rattle.refinement.proofs.Summary.{forward-to}
 

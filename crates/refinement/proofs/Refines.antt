@@ -24,7 +24,8 @@ use Rattle.lists.specs.Lists.{tabulate}
 use Rattle.lists.proofs.Laws.{length-tabulate, getD-tabulate, tabulated}
 use Rattle.signature.specs.declared.Signature.{Signature}
 use Rattle.signature.specs.Signature.{signatureFits}
-use Rattle.matcher.specs.Matcher.{maxTaken, stageCount, noStage}
+use Rattle.stage.specs.Stage.{maxTaken, noStage}
+use Rattle.stage.specs.Stages.{stageCount}
 use Rattle.matcher.specs.Stroke.{nextMark, walkedFrom, walked, strokeRefusal, strokeAnswer}
 use Rattle.matcher.specs.declared.Walk.{Walk}
 use Rattle.refinement.specs.Refinement.{cardTests, markIn, summary, watchOf, Refines}

@@ -20,11 +20,10 @@ use Rattle.ladder.proofs.Starts.{Has, Ascending, has-last}
 use Rattle.ladder.proofs.Even.{Even}
 use Rattle.ladder.proofs.Gaps.{Alike}
 use Rattle.signature.specs.declared.Signature.{Signature}
-use Rattle.matcher.specs.declared.Gap.{Gap}
-use Rattle.matcher.specs.Matcher.{sameGap}
-use Rattle.matcher.specs.Stroke.{alone, gapTo, forward, takenOff, entered, setsAside, allButLast}
+use Rattle.stage.specs.declared.Gap.{Gap}
+use Rattle.stage.specs.Stage.{sameGap, alone, gapTo, forward, takenOff, entered, setsAside, allButLast}
 use Rattle.lists.proofs.Cases.{by-test}
-use Rattle.matcher.proofs.Fit.{stage-by}
+use Rattle.stage.proofs.Fit.{stage-by}
 use Rattle.refinement.specs.Refinement.{cardTests, markIn, summary, readSet}
 
 last-snoc : (x : ℕ) (xs : List ℕ) (z : ℕ) → ladder.lastOf x (xs ++ z ∷ []) ≡ z

@@ -23,9 +23,10 @@ use Rattle.ladder.proofs.Aged.{Staged}
 use Rattle.ladder.proofs.Visited.{Met, Kept, Taken, rest-view, rest-has, due-tested, tried-at}
 use Rattle.ladder.proofs.Even.{Even}
 use Rattle.ladder.proofs.Gaps.{Alike}
-use Rattle.matcher.specs.declared.Stage.{Stage}
-use Rattle.matcher.specs.Matcher.{stageCount, noStage}
-use Rattle.matcher.specs.Stroke.{takenOff, tried, ripe, visited, descended, noAnswer}
+use Rattle.stage.specs.declared.Stage.{Stage}
+use Rattle.stage.specs.Stage.{noStage, takenOff}
+use Rattle.stage.specs.Stages.{stageCount}
+use Rattle.matcher.specs.Stroke.{tried, ripe, visited, descended, noAnswer}
 use Rattle.matcher.specs.declared.Walk.{Walk}
 use Rattle.refinement.specs.Refinement.{cardTests, summary}
 use Rattle.lists.proofs.Cases.{by-test}

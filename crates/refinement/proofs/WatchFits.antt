@@ -23,9 +23,11 @@ use Rattle.lists.specs.Lists.{tabulate}
 use Rattle.lists.proofs.Laws.{getD-tabulate}
 use Rattle.signature.specs.declared.Signature.{Signature}
 use Rattle.signature.specs.Signature.{signatureFits}
-use Rattle.matcher.specs.Matcher.{stageCount, noStage, matcherFits, freshRefusal, blank, fresh}
+use Rattle.stage.specs.Stages.{stageCount}
+use Rattle.stage.specs.Stage.{noStage}
+use Rattle.matcher.specs.Matcher.{matcherFits, freshRefusal, blank, fresh}
 use Rattle.refinement.specs.Refinement.{cardTests, summary, watchOf}
-use Rattle.matcher.proofs.Fit.{Fit, idle, single, several}
+use Rattle.stage.proofs.Fit.{Fit, idle, single, several}
 use Rattle.matcher.proofs.Sound.{sound-fits}
 use Rattle.signature.proofs.Card.{SoundCard, sound-card}
 

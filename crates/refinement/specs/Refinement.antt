@@ -10,15 +10,16 @@ use Rattle.ladder.specs.Prefix.{block}
 use Rattle.ladder.specs.Ladder as ladder
 use Rattle.lists.specs.Lists.{tabulate}
 use Rattle.signature.specs.declared.Signature.{Signature}
-use Rattle.matcher.specs.declared.Mark.{Mark}
-use Rattle.matcher.specs.declared.Stage.{Stage}
+use Rattle.stage.specs.declared.Mark.{Mark}
+use Rattle.stage.specs.declared.Stage.{Stage}
 use Rattle.matcher.specs.declared.Matcher.{Matcher}
 use Rattle.matcher.specs.declared.Ring.{Ring}
 use Rattle.matcher.specs.declared.Ring.the-variants.{Silent, At}
-use Rattle.matcher.specs.declared.Progression.{Progression}
+use Rattle.stage.specs.declared.Progression.{Progression}
 use Rattle.matcher.specs.declared.Answer.{Answer}
-use Rattle.matcher.specs.Matcher.{stageCount, noStage}
-use Rattle.matcher.specs.Stroke.{alone, strokeRefusal, strokeAnswer, afterStroke}
+use Rattle.stage.specs.Stages.{stageCount}
+use Rattle.stage.specs.Stage.{noStage, alone}
+use Rattle.matcher.specs.Stroke.{strokeRefusal, strokeAnswer, afterStroke}
 
 -- A place in a history, with the fingerprint of the bytes before it.
 abbrev pub markIn : Key → List ℕ → ℕ → Mark

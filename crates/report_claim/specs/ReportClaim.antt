@@ -9,7 +9,7 @@ use Rattle.fingerprint.specs.declared.Key.{Key}
 use Rattle.fingerprint.specs.Fingerprint.{agreeUnder}
 use Rattle.ladder.specs.Claim.{Claim}
 use Rattle.matcher.specs.declared.Matcher.{Matcher}
-use Rattle.matcher.specs.Matcher.{maxTaken}
+use Rattle.stage.specs.Stage.{maxTaken}
 use Rattle.record.specs.Calls.{readSignature, readTaken}
 use Rattle.whole_run.specs.History.{History, bytesOf, answersOf}
 use Rattle.whole_run.specs.Run.{Call, Run}

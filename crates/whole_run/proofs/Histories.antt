@@ -10,7 +10,7 @@ use lib.Seq.{getD-at}
 use Rattle.fingerprint.specs.declared.Key.{Key}
 use Rattle.ladder.specs.Ladder as ladder
 use Rattle.ladder.proofs.Grow.{answer-append}
-use Rattle.matcher.specs.Matcher.{maxTaken}
+use Rattle.stage.specs.Stage.{maxTaken}
 use Rattle.refinement.specs.Refinement.{passageTests, readAnswer}
 use Rattle.whole_run.specs.History.{Taken, History, bytesOf, answersOf}
 

@@ -7,8 +7,8 @@ use lib.ListN.{getD}
 use Rattle.fingerprint.specs.declared.Key.{Key}
 use Rattle.signature.specs.declared.Signature.{Signature}
 use Rattle.matcher.specs.declared.Matcher.{Matcher}
-use Rattle.matcher.specs.Matcher.{stageCount, noStage}
-use Rattle.matcher.specs.Stroke.{alone, takenOff}
+use Rattle.stage.specs.Stage.{noStage, alone, takenOff}
+use Rattle.stage.specs.Stages.{stageCount}
 use Rattle.refinement.proofs.Readings.{both-readings}
 use Rattle.whole_run.specs.History.{History, bytesOf}
 use Rattle.whole_run.specs.Run.{CardOf, Call, Run}

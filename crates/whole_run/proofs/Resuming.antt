@@ -10,7 +10,8 @@ use borrow.Author.Tests.{le-ltb}
 use Rattle.fingerprint.specs.declared.Key.{Key}
 use Rattle.signature.specs.declared.Signature.{Signature}
 use Rattle.matcher.specs.declared.Matcher.{Matcher}
-use Rattle.matcher.specs.Matcher.{maxTaken, matcherFits, freshRefusal}
+use Rattle.stage.specs.Stage.{maxTaken}
+use Rattle.matcher.specs.Matcher.{matcherFits, freshRefusal}
 use Rattle.matcher.specs.Stroke.{strokeRefusal}
 use Rattle.record.specs.Layout.{checkpointRecord}
 use Rattle.record.specs.Calls.{saveRefusal, saveUsed, saveBuffer, behindRefusal, behindBuffer, restoreRefusal, restoredMatcher}

@@ -14,7 +14,9 @@ use Rattle.lists.proofs.Laws.{length-tabulate}
 use Rattle.signature.specs.declared.Signature.{Signature}
 use Rattle.made_from.specs.MadeFrom.{MadeSignature}
 use Rattle.matcher.specs.declared.Matcher.{Matcher}
-use Rattle.matcher.specs.Matcher.{maxTaken, stageCount, matcherFits, fresh}
+use Rattle.stage.specs.Stage.{maxTaken}
+use Rattle.stage.specs.Stages.{stageCount}
+use Rattle.matcher.specs.Matcher.{matcherFits, fresh}
 use Rattle.matcher.specs.Stroke.{strokeRefusal, strokeAnswer, afterStroke}
 use Rattle.refinement.specs.Refinement.{passageTests, watchOf, Refines}
 use Rattle.refinement.proofs.WatchFits as watch-fits
