@@ -8,7 +8,6 @@ use Rattle.fingerprint.specs.declared.Key.{Key}
 use Rattle.fingerprint.specs.Fingerprint.{same, empty, fp, agreeUnder}
 use Rattle.ladder.specs.Prefix.{block}
 use Rattle.ladder.specs.Ladder as ladder
-use Rattle.lists.specs.Lists.{tabulate}
 use Rattle.signature.specs.declared.Signature.{Signature}
 use Rattle.stage.specs.declared.Mark.{Mark}
 use Rattle.stage.specs.declared.Stage.{Stage}
@@ -17,7 +16,7 @@ use Rattle.matcher.specs.declared.Ring.{Ring}
 use Rattle.matcher.specs.declared.Ring.the-variants.{Silent, At}
 use Rattle.stage.specs.declared.Progression.{Progression}
 use Rattle.matcher.specs.declared.Answer.{Answer}
-use Rattle.stage.specs.Stages.{stageCount}
+use Rattle.stage.specs.Stages.{stagesOf}
 use Rattle.stage.specs.Stage.{noStage, alone}
 use Rattle.matcher.specs.Stroke.{strokeRefusal, strokeAnswer, afterStroke}
 
@@ -57,7 +56,7 @@ watchOf card h =
     record {
       signature = card;
       now = markIn (card .key) h (length h);
-      stages = tabulate (λ i. summary (card .key) h (ladder.after (cardTests card) h (length h) i)) stageCount;
+      stages = stagesOf (λ i. summary (card .key) h (ladder.after (cardTests card) h (length h) i));
     }
 
 -- "Whether a start rang, and which": document 01's value for every case.
