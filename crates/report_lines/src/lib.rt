@@ -18,8 +18,8 @@ ghost use Rattle.report_lines.specs.Lines.{
 };
 ghost use Rattle.report_lines.specs.Stored.{mostItem, mostNumbers, mostLine, Stored};
 use matcher::Answer;
-use stage::Progression;
 use matcher::Ring;
+use stage::Progression;
 
 // The room that a buffer must have from the place on, whatever is to be put there: the lines of one byte are never longer.
 pub const ROOM: usize = 2048;

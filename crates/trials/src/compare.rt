@@ -1,14 +1,14 @@
 // Whether two values are equal, field by field.
 use fingerprint::Fingerprint;
 use matcher::Answer;
-use stage::Gap;
-use stage::Mark;
 use matcher::Matcher;
-use stage::Progression;
 use matcher::Ring;
-use stage::Stage;
 use signature::Builder;
 use signature::Signature;
+use stage::Gap;
+use stage::Mark;
+use stage::Progression;
+use stage::Stage;
 
 fn same_mark(a: Mark, b: Mark) -> bool {
     a.at == b.at && a.print.value == b.print.value

@@ -5,11 +5,11 @@ use crate::bytes::put;
 use crate::bytes::put_number;
 use crate::bytes::short;
 use fingerprint::Fingerprint;
-use stage::Mark;
 use matcher::Matcher;
-use stage::Stage;
 use naive_search::stages;
 use signature::Signature;
+use stage::Mark;
+use stage::Stage;
 
 // The size of a parked record: the length field and what it counts.
 pub(crate) fn record_size(m: u32) -> usize {

@@ -5,9 +5,9 @@ use crate::refusals::calls::parkings;
 use crate::refusals::calls::strikes;
 use crate::refusals::cards::card_of;
 use fingerprint::Fingerprint;
+use matcher::Matcher;
 use stage::Gap;
 use stage::Mark;
-use matcher::Matcher;
 use stage::Stage;
 
 // A start with some print.

@@ -18,14 +18,14 @@ use crate::tally::PLACES;
 use crate::tally::expect;
 use fingerprint::Fingerprint;
 use fingerprint::Key;
-use stage::Gap;
-use stage::Mark;
 use matcher::Matcher;
-use stage::Stage;
 use record::checkpoint::restore;
 use record::read_signature;
 use record::write_signature;
 use signature::Signature;
+use stage::Gap;
+use stage::Mark;
+use stage::Stage;
 
 // What buffers hold before a call, and how many bytes they have.
 pub const FILLER: u8 = 170;

@@ -7,10 +7,10 @@ use crate::print::words;
 use crate::tally::expect;
 use matcher::Answer;
 use matcher::Matcher;
-use stage::Progression;
 use matcher::Ring;
 use record::read_signature;
 use signature::Signature;
+use stage::Progression;
 
 // The line of a ring.
 fn say_ring(t: usize, ring: Ring) {
