@@ -6,6 +6,7 @@ use mathlib.Core.Path.{_≡_, refl, sym, _∙_, ap}
 use mathlib.Core.Bool.{Bool, true, false, _&&_}
 use mathlib.Core.List.{List, [], _∷_, _++_}
 use native.Mathlib.Nat.{pow-zero, pow-suc, add-mod-mod, mod-add-div}
+use native.Mathlib.Numerals.{add-one}
 use native.Mathlib.Omega.{arith}
 use lib.ListN.{length, getD}
 use lib.Dec.{leb}
@@ -28,7 +29,11 @@ use Rattle.fingerprint.specs.Fingerprint.{
   isBytePrint,
   agreeUnder,
   power,
+  multiplied,
   squared,
+  keyNumber,
+  printNumber,
+  numberedPower,
   joined,
   joinedBy,
   rest,
@@ -38,7 +43,7 @@ use Rattle.fingerprint.specs.Fingerprint.{
   printNumbers,
   printOf,
 }
-use Rattle.fingerprint.proofs.Modular.{same-residue, mod-mul-add, mul-mod-add, mul-mod-right-factor}
+use Rattle.fingerprint.proofs.Modular.{same-residue, mod-mul, mod-mul-add, mul-mod-add, mul-mod-right-factor}
 use Rattle.fingerprint.proofs.Powers.{power-product}
 
 -- two fingerprints with one number are equal, and so are two powers
@@ -56,6 +61,9 @@ same-self f = eq-eqb (f .value) (f .value) refl
 
 pub eq-same : (f g : Fingerprint) → f ≡ g → same f g ≡ true
 eq-same f g e = rw e (same-self g)
+
+pub number-same : (f g : Fingerprint) → printNumber f ≡ printNumber g → same f g ≡ true
+number-same f g e = eq-same f g (by-value f g e)
 
 pub same-key-eq : (a b : Key) → sameKey a b ≡ true → a ≡ b
 unfolding sameKey
@@ -168,10 +176,17 @@ pub rest-by : (key : Key) (uv u : Fingerprint) (n : ℕ) → restBy (power key n
 rest-by key uv u n =
     by-value _ _ (ap (λ (x : ℕ). (uv .value + (p - x)) % p) (mul-mod-right-factor p (u .value) (key .r ^ n)))
 
+by-power : (a b : Power) → a .value ≡ b .value → a ≡ b
+by-power a b e = λ i. record { value = e i }
+
+pub power-none : (key : Key) → numberedPower 1 ≡ power key 0
+power-none key = by-power _ _ (rw pow-zero)
+
+pub power-more : (key : Key) (n : ℕ) → multiplied (power key n) (numberedPower (keyNumber key)) ≡ power key (n + 1)
+power-more key n = by-power _ _ (mod-mul p (key .r ^ n) (key .r) ∙ rw (add-one, pow-suc))
+
 pub square-power : (key : Key) (n : ℕ) → squared (power key n) ≡ power key (n + n)
-square-power key n =
-    let e : key .r ^ n % p * (key .r ^ n % p) % p ≡ key .r ^ (n + n) % p = power-product (key .r) n n in
-    λ i. record { value = e i }
+square-power key n = by-power _ _ (power-product (key .r) n n)
 
 -- To have one fingerprint is an equivalence of blocks.
 module _ (key : Key) where

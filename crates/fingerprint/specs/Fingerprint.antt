@@ -58,12 +58,15 @@ isBytePrint f = leb (f .value) 255
 abbrev pub agreeUnder : Key → List ℕ → List ℕ → Bool
 agreeUnder key u v = same (fp key u) (fp key v)
 
--- r to the n, and the square of such a power.
+-- r to the n; the product of two such powers, and the square of one.
 abbrev pub power : Key → ℕ → Power
 power key n = record { value = key .r ^ n % p }
 
+abbrev pub multiplied : Power → Power → Power
+multiplied a b = record { value = a .value * b .value % p }
+
 abbrev pub squared : Power → Power
-squared a = record { value = a .value * a .value % p }
+squared a = multiplied a a
 
 -- "For u followed by v: fp(uv) = (fp(u) × r^|v| + fp(v)) mod p": from fp(u), fp(v) and |v|; and the same from r^|v|.
 abbrev pub joined : Key → Fingerprint → Fingerprint → ℕ → Fingerprint
@@ -79,7 +82,7 @@ rest key uv u n = record { value = (uv .value + (p - u .value * key .r ^ n % p))
 abbrev pub restBy : Power → Fingerprint → Fingerprint → Fingerprint
 restBy shift uv u = record { value = (uv .value + (p - u .value * shift .value % p)) % p }
 
--- The number that a key or a fingerprint is, and back: any number, so that what comes back may misfit.
+-- The number that a key, a fingerprint or a power is, and back: any number, so that what comes back may misfit.
 abbrev pub keyNumber : Key → ℕ
 keyNumber key = key .r
 
@@ -91,6 +94,12 @@ printNumber f = f .value
 
 abbrev pub numberedPrint : ℕ → Fingerprint
 numberedPrint n = record { value = n }
+
+abbrev pub powerNumber : Power → ℕ
+powerNumber a = a .value
+
+abbrev pub numberedPower : ℕ → Power
+numberedPower n = record { value = n }
 
 -- What a record keeps of a key and of a fingerprint, each number in a field of 4 bytes; and what such numbers make.
 unfoldable pub keyNumbers : Key → List ℕ
@@ -110,4 +119,4 @@ abbrev pub noKey : Key
 noKey = numberedKey 0
 
 abbrev pub noPower : Power
-noPower = record { value = 0 }
+noPower = numberedPower 0

@@ -12,7 +12,7 @@ use lib.Seq.{length-take-le}
 use borrow.Author.Tests.{ltb-false}
 use Rattle.refusal.specs.Number.{number}
 use Rattle.lists.proofs.Cases.{by-test}
-use Rattle.matcher.specs.Matcher.{maxTaken}
+use Rattle.stage.specs.Stage.{maxTaken}
 use Rattle.report_core.specs.declared.Progress.{Progress}
 use Rattle.report_core.specs.declared.Begun.{Begun}
 use Rattle.report_core.specs.Output.{cardBytes, output}

@@ -8,7 +8,7 @@ use lib.ListN.{length, take, drop}
 use Rattle.fingerprint.specs.declared.Key.{Key}
 use Rattle.ladder.specs.Claim.{Claim}
 use Rattle.matcher.specs.declared.Matcher.{Matcher}
-use Rattle.matcher.specs.Matcher.{maxTaken}
+use Rattle.stage.specs.Stage.{maxTaken}
 use Rattle.record.specs.Calls.{readSignature, readTaken}
 use Rattle.refinement.specs.Refinement.{agreeUnder}
 use Rattle.whole_run.specs.History.{History, bytesOf, answersOf}

@@ -4,7 +4,8 @@ use mathlib.Core.Bool.{Bool, true, cond, _&&_}
 use mathlib.Core.List.{List, [], _∷_, _++_}
 use lib.ListN.{length}
 use lib.Dec.{leb, eqb}
-use Rattle.matcher.specs.Matcher.{stageCount, matcherFits}
+use Rattle.stage.specs.Stages.{stageCount}
+use Rattle.matcher.specs.Matcher.{matcherFits}
 use Rattle.matcher.specs.Stroke.{strokeRefusal, strokeAnswer, afterStroke}
 use Rattle.report_lines.specs.Lines.{reportLines, room}
 use Rattle.report_core.specs.declared.Progress.{Progress}

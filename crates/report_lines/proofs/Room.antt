@@ -11,9 +11,9 @@ use lib.Seq.{getD-take}
 use borrow.Author.Tests.{le-leb, lt-leb}
 use Rattle.matcher.specs.declared.Ring.{Ring}
 use Rattle.matcher.specs.declared.Ring.the-variants.{Silent, At}
-use Rattle.matcher.specs.declared.Progression.{Progression}
+use Rattle.stage.specs.declared.Progression.{Progression}
 use Rattle.matcher.specs.declared.Answer.{Answer}
-use Rattle.matcher.specs.Matcher.{stageCount}
+use Rattle.stage.specs.Stages.{stageCount}
 use Rattle.report_lines.specs.declared.Put.the-variants.{Next}
 use Rattle.report_lines.specs.Stored.{mostItem, mostLine}
 use Rattle.report_lines.specs.Lines.{item, line, lineA, lineX, ringLines, reportLines, room, placed, written}

@@ -7,7 +7,7 @@ use lib.Dec.{leb}
 use Rattle.decimal.specs.Decimal.{decimal}
 use Rattle.matcher.specs.declared.Ring.{Ring}
 use Rattle.matcher.specs.declared.Ring.the-variants.{Silent, At}
-use Rattle.matcher.specs.declared.Progression.{Progression}
+use Rattle.stage.specs.declared.Progression.{Progression}
 use Rattle.matcher.specs.declared.Answer.{Answer}
 use Rattle.report_lines.specs.declared.Put.{Put}
 use Rattle.report_lines.specs.declared.Put.the-variants.{Full, Next}

@@ -3,7 +3,7 @@ ghost use mathlib.Core.Path.{_≡_};
 ghost use Prim.Native.Nat.{_+_, _≤_, min};
 ghost use lib.ListN.{length};
 ghost use lib.Dec.{leb};
-ghost use Rattle.matcher.specs.Matcher.{stageCount};
+ghost use Rattle.stage.specs.Stages.{stageCount};
 ghost use Rattle.report_lines.specs.Lines.{
   item,
   line,
@@ -18,7 +18,7 @@ ghost use Rattle.report_lines.specs.Lines.{
 };
 ghost use Rattle.report_lines.specs.Stored.{mostItem, mostNumbers, mostLine, Stored};
 use matcher::Answer;
-use matcher::Progression;
+use stage::Progression;
 use matcher::Ring;
 
 // The room that a buffer must have from the place on, whatever is to be put there: the lines of one byte are never longer.

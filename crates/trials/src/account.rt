@@ -7,7 +7,7 @@ use crate::tally::add;
 use crate::tally::expect;
 use crate::tally::mix;
 use matcher::Answer;
-use matcher::Progression;
+use stage::Progression;
 use matcher::Ring;
 use naive_search::stages;
 

@@ -1,12 +1,12 @@
 // Whether two values are equal, field by field.
 use fingerprint::Fingerprint;
 use matcher::Answer;
-use matcher::Gap;
-use matcher::Mark;
+use stage::Gap;
+use stage::Mark;
 use matcher::Matcher;
-use matcher::Progression;
+use stage::Progression;
 use matcher::Ring;
-use matcher::Stage;
+use stage::Stage;
 use signature::Builder;
 use signature::Signature;
 

@@ -11,7 +11,7 @@ use crate::tally::RINGS;
 use crate::tally::SETS;
 use crate::tally::add;
 use crate::tally::expect;
-use matcher::Progression;
+use stage::Progression;
 use naive_search::collides;
 use naive_search::occurs;
 use naive_search::print_of;

@@ -11,7 +11,7 @@ use Rattle.fingerprint.specs.declared.Key.{Key}
 use Rattle.ladder.specs.Ladder.{Answer, answerAt}
 use Rattle.ladder.specs.Claim.{Claim}
 use Rattle.ladder.proofs.Theorem.{ladder-claim}
-use Rattle.refinement.specs.Refinement.{agreeUnder}
+use Rattle.refinement.specs.Refinement.{agreeUnder, passageTests}
 use Rattle.refinement.proofs.Refines.{agree-same}
 use Rattle.whole_run.specs.History.{History, bytesOf, answersOf}
 use Rattle.whole_run.proofs.Histories.{Faithful, length-bytes}
@@ -42,12 +42,12 @@ module _
         }
 
 module _ {key : Key} {p : List ℕ} {h : History} (long : 1 ≤ length p) (faithful : Faithful key p h) where
-  answers-same : (n : ℕ) → n ≤ length (bytesOf h) → answersOf h n ≡ answerAt (agreeUnder key) p (bytesOf h) n
+  answers-same : (n : ℕ) → n ≤ length (bytesOf h) → answersOf h n ≡ answerAt (passageTests key p) (bytesOf h) n
   unfolding answerAt
   answers-same zero l = refl
   answers-same (suc n) l = faithful .answers (suc n) (omega arith) (omega (arith, length-bytes h))
 
   pub faithful-claim : Claim (agreeUnder key) p (bytesOf h) (answersOf h)
   faithful-claim =
-      claim-of (agreeUnder key) p (bytesOf h) (answersOf h) (answerAt (agreeUnder key) p (bytesOf h)) answers-same
+      claim-of (agreeUnder key) p (bytesOf h) (answersOf h) (answerAt (passageTests key p) (bytesOf h)) answers-same
       (ladder-claim (agreeUnder key) (agree-same key) p (bytesOf h) long)

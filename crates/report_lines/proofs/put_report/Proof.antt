@@ -10,7 +10,7 @@ use borrow.Author.Tests.{leb-true, leb-false, not-true, not-false}
 use lib.ListN.{length, take}
 use lib.Seq.{take-all}
 use Rattle.lists.proofs.Laws.{counted-elements}
-use Rattle.matcher.specs.Matcher.{stageCount}
+use Rattle.stage.specs.Stages.{stageCount}
 use Rattle.report_lines.specs.Lines.{lineA, reportLines, room}
 use Rattle.report_lines.specs.Stored.{mostLine, Stored}
 use Rattle.report_lines.proofs.Storing.{nothing, run, run-more, at-most, same-size, finish, refuse}

@@ -5,9 +5,9 @@ use crate::bytes::put;
 use crate::bytes::put_number;
 use crate::bytes::short;
 use fingerprint::Fingerprint;
-use matcher::Mark;
+use stage::Mark;
 use matcher::Matcher;
-use matcher::Stage;
+use stage::Stage;
 use naive_search::stages;
 use signature::Signature;
 

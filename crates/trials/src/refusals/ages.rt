@@ -5,10 +5,10 @@ use crate::refusals::calls::parkings;
 use crate::refusals::calls::strikes;
 use crate::refusals::cards::card_of;
 use fingerprint::Fingerprint;
-use matcher::Gap;
-use matcher::Mark;
+use stage::Gap;
+use stage::Mark;
 use matcher::Matcher;
-use matcher::Stage;
+use stage::Stage;
 
 // A start with some print.
 fn mark(at: u32) -> Mark {

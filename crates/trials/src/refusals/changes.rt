@@ -1,10 +1,10 @@
 // Values with one number replaced, each number by its place.
 use fingerprint::Fingerprint;
 use fingerprint::Key;
-use matcher::Gap;
-use matcher::Mark;
+use stage::Gap;
+use stage::Mark;
 use matcher::Matcher;
-use matcher::Stage;
+use stage::Stage;
 use signature::Builder;
 use signature::Signature;
 

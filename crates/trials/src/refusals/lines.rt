@@ -7,7 +7,7 @@ use crate::print::words;
 use crate::tally::expect;
 use matcher::Answer;
 use matcher::Matcher;
-use matcher::Progression;
+use stage::Progression;
 use matcher::Ring;
 use record::read_signature;
 use signature::Signature;
