@@ -44,14 +44,14 @@ use crate::field::put_key;
 use crate::field::put_print;
 use crate::field::put_word;
 use crate::field::same_key;
-use stage::Gap;
-use stage::Mark;
 use matcher::Matcher;
-use stage::Stage;
 use refusal::Refusal;
 use refusal::Verdict;
 use signature::Signature;
 use signature::levels;
+use stage::Gap;
+use stage::Mark;
+use stage::Stage;
 
 // The kind of a checkpoint's record, and the least length field that one can have.
 pub const CHECKPOINT_KIND: u32 = 2;
