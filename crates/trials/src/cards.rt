@@ -7,6 +7,7 @@ use fingerprint::Key;
 use naive_search::print_of;
 use refusal::Verdict;
 use signature::Builder;
+use signature::Finished;
 use signature::Signature;
 
 // A number as a key.
@@ -29,24 +30,25 @@ pub(crate) fn accepted(verdict: Verdict) -> bool {
     verdict.number() == 0
 }
 
-// The card of a pattern, by the maker's calls, none of which is refused.
-pub(crate) fn make(pattern: &[u8], key: u32, tally: &mut [u32]) -> Signature {
+// The card of a pattern, as the maker finishes it; a refusal of any call before shows in its verdict.
+fn finished(pattern: &[u8], key: u32) -> Finished {
     let begun = Builder::begin(short(pattern.len()), key_of(key));
-    let verdict = begun.verdict;
-    expect(tally, accepted(verdict));
     let mut builder = begun.builder;
     let mut i: usize = 0;
     while i < pattern.len() {
         let pushed = builder.push(pattern[i]);
-        let verdict = pushed.verdict;
-        expect(tally, accepted(verdict));
         builder = pushed.builder;
         i = i + 1;
     }
-    let finished = builder.finish();
-    let verdict = finished.verdict;
+    builder.finish()
+}
+
+// The card of a pattern, by the maker's calls, none of which is refused.
+pub(crate) fn make(pattern: &[u8], key: u32, tally: &mut [u32]) -> Signature {
+    let made = finished(pattern, key);
+    let verdict = made.verdict;
     expect(tally, accepted(verdict));
-    finished.signature
+    made.signature
 }
 
 // The length of the prefix behind one of `size` bytes, for a pattern of m bytes: twice as much, at most the whole; 0 behind the last.
