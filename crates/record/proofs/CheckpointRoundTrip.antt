@@ -12,9 +12,11 @@ use lib.ListN.{length, getD}
 use borrow.Author.Tests.{lt-ltb, le-ltb, eq-eqb}
 use Rattle.ladder.specs.Prefix.{levels}
 use Rattle.lists.proofs.Laws.{tabulated}
-use Rattle.matcher.specs.declared.Stage.{Stage}
+use Rattle.stage.specs.declared.Stage.{Stage}
 use Rattle.matcher.specs.declared.Matcher.{Matcher}
-use Rattle.matcher.specs.Matcher.{stageCount, noStage, matcherFits}
+use Rattle.stage.specs.Stage.{noStage}
+use Rattle.stage.specs.Stages.{stageCount}
+use Rattle.matcher.specs.Matcher.{matcherFits}
 use Rattle.record.specs.Layout.{wordAt, markAt, stageAt, stageFields, stageFieldsOf, lastPrint, checkpointKind, checkpointLength, checkpointFields, checkpointRecord, samePattern, matcherAt}
 use Rattle.record.specs.Calls.{restoreRefusal, restoredMatcher, restoreTaken, checkpointLeast}
 use Rattle.record.proofs.Bytes.{wide, read-length, read-field, getD-gathered}

@@ -16,9 +16,11 @@ use Rattle.ladder.proofs.Levels.{levels-bound, length-within, length-positive}
 use Rattle.lists.proofs.Laws.{and-left, and-right, every-at}
 use Rattle.signature.specs.declared.Signature.{Signature}
 use Rattle.signature.specs.Signature.{maxLength, places, printsFit, signatureFits}
-use Rattle.matcher.specs.declared.Stage.{Stage}
+use Rattle.stage.specs.declared.Stage.{Stage}
 use Rattle.matcher.specs.declared.Matcher.{Matcher}
-use Rattle.matcher.specs.Matcher.{stageCount, noStage, noneFits, oneFits, manyFit, stageFits, matcherFits}
+use Rattle.stage.specs.Stage.{noStage, noneFits, oneFits, manyFit, stageFits}
+use Rattle.stage.specs.Stages.{stageCount}
+use Rattle.matcher.specs.Matcher.{matcherFits}
 use Rattle.record.proofs.Bytes.{wide}
 
 -- Tests that passed, as the facts that they tested: `simp passed at h`.

@@ -11,11 +11,12 @@ use Rattle.ladder.specs.Prefix.{levels}
 use Rattle.lists.specs.Lists.{tabulate}
 use Rattle.signature.specs.declared.Signature.{Signature}
 use Rattle.signature.specs.Signature.{places}
-use Rattle.matcher.specs.declared.Mark.{Mark}
-use Rattle.matcher.specs.declared.Gap.{Gap}
-use Rattle.matcher.specs.declared.Stage.{Stage}
+use Rattle.stage.specs.declared.Mark.{Mark}
+use Rattle.stage.specs.declared.Gap.{Gap}
+use Rattle.stage.specs.declared.Stage.{Stage}
 use Rattle.matcher.specs.declared.Matcher.{Matcher}
-use Rattle.matcher.specs.Matcher.{stageCount, noStage}
+use Rattle.stage.specs.Stage.{noStage}
+use Rattle.stage.specs.Stages.{stageCount}
 
 -- "Little-endian.": a number in 4 bytes, and in 2.
 unfoldable pub word : ℕ → List ℕ

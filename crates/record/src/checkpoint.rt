@@ -5,7 +5,8 @@ ghost use lib.ListN.{length};
 ghost use Rattle.ladder.specs.Prefix.{levels};
 ghost use Rattle.lists.specs.Lists.{tabulate};
 ghost use Rattle.refusal.specs.Number.{refusalNumber, number};
-ghost use Rattle.matcher.specs.Matcher.{noStage, noMatcher};
+ghost use Rattle.stage.specs.Stage.{noStage};
+ghost use Rattle.matcher.specs.Matcher.{noMatcher};
 ghost use Rattle.record.specs.Layout.{
   gathered,
   markFields,
@@ -43,14 +44,14 @@ use crate::field::put_key;
 use crate::field::put_print;
 use crate::field::put_word;
 use crate::field::same_key;
-use matcher::Gap;
-use matcher::Mark;
 use matcher::Matcher;
-use matcher::Stage;
 use refusal::Refusal;
 use refusal::Verdict;
 use signature::Signature;
 use signature::levels;
+use stage::Gap;
+use stage::Mark;
+use stage::Stage;
 
 // The kind of a checkpoint's record, and the least length field that one can have.
 pub const CHECKPOINT_KIND: u32 = 2;

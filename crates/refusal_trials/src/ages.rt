@@ -5,10 +5,10 @@ use crate::changes::print_of;
 use crate::print::say;
 use crate::print::words;
 use fingerprint::Fingerprint;
-use matcher::Gap;
-use matcher::Mark;
 use matcher::Matcher;
-use matcher::Stage;
+use stage::Gap;
+use stage::Mark;
+use stage::Stage;
 
 // A start with some print.
 fn mark(at: u32) -> Mark {

@@ -17,10 +17,7 @@ use crate::names::say_card_change;
 use crate::print::say;
 use crate::print::words;
 use fingerprint::Fingerprint;
-use matcher::Gap;
-use matcher::Mark;
 use matcher::Matcher;
-use matcher::Stage;
 use record::Written;
 use record::checkpoint::Restored;
 use record::checkpoint::restore;
@@ -29,6 +26,9 @@ use record::write_signature;
 use signature::Builder;
 use signature::Finished;
 use signature::Signature;
+use stage::Gap;
+use stage::Mark;
+use stage::Stage;
 
 // What buffers hold before a call, and how many bytes they have.
 pub const FILLER: u8 = 170;

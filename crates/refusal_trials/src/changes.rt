@@ -1,12 +1,12 @@
 // Values with one number replaced, each number by its place.
 use fingerprint::Fingerprint;
 use fingerprint::Key;
-use matcher::Gap;
-use matcher::Mark;
 use matcher::Matcher;
-use matcher::Stage;
 use signature::Builder;
 use signature::Signature;
+use stage::Gap;
+use stage::Mark;
+use stage::Stage;
 
 // Places of a half-made card and of a card, which has no count and no running print; print i stands at PRINTS + i.
 pub const LENGTH: u32 = 0;

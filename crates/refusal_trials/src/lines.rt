@@ -6,10 +6,10 @@ use crate::print::say;
 use crate::print::words;
 use matcher::Answer;
 use matcher::Matcher;
-use matcher::Progression;
 use matcher::Ring;
 use record::read_signature;
 use signature::Signature;
+use stage::Progression;
 
 // The line of a ring.
 fn say_ring(t: u32, ring: Ring) {

@@ -3,14 +3,14 @@ use crate::cards::accepted;
 use fingerprint::Fingerprint;
 use fingerprint::Key;
 use matcher::Answer;
-use matcher::Gap;
-use matcher::Mark;
 use matcher::Matcher;
-use matcher::Progression;
 use matcher::Ring;
-use matcher::Stage;
 use matcher::Stroke;
 use signature::Signature;
+use stage::Gap;
+use stage::Mark;
+use stage::Progression;
+use stage::Stage;
 
 fn same_key(a: Key, b: Key) -> bool {
     a.r == b.r

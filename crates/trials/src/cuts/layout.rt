@@ -7,11 +7,11 @@ use crate::bytes::short;
 use crate::cards::key_number;
 use crate::cards::print_number;
 use fingerprint::Fingerprint;
-use matcher::Mark;
 use matcher::Matcher;
-use matcher::Stage;
 use naive_search::stages;
 use signature::Signature;
+use stage::Mark;
+use stage::Stage;
 
 // The size of a parked record: the length field and what it counts.
 pub(crate) fn record_size(m: u32) -> usize {

@@ -2,7 +2,7 @@
 use mathlib.Core.Path.{_≡_, _∙_}
 use Rattle.ladder.specs.Prefix.{levels}
 use Rattle.lists.specs.Lists.{tabulate}
-use Rattle.matcher.specs.Matcher.{stageCount}
+use Rattle.stage.specs.Stages.{stageCount}
 use Rattle.record.specs.Layout.{stagePlace, matcherAt}
 use borrow.Author.Needs.{needs}
 use Rattle.record.proofs.checkpoint.matcher_at.Statement.{statement}
