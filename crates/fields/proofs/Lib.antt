@@ -1,0 +1,4 @@
+pub mod Numbers
+pub mod Room
+pub mod Pasted
+pub mod Laws
