@@ -2,3 +2,4 @@ pub mod Numbers
 pub mod Room
 pub mod Pasted
 pub mod Laws
+pub mod Gathered

@@ -45,10 +45,19 @@ valuesAt s at [] = []
 valuesAt s at (w ∷ ws) = numberAt s at w ∷ valuesAt s (at + w) ws
 
 -- Each value can be said in the bytes of its field.
-abbrev pub Fit : List Field → Type 0
-Fit [] = Unit {0}
-Fit (f ∷ fields) = (f .value < 256 ^ f .width) × Fit fields
+abbrev pub EachFits : List Field → Type 0
+EachFits [] = Unit {0}
+EachFits (f ∷ fields) = (f .value < 256 ^ f .width) × EachFits fields
+
+-- the lists f 0, f 1, .. f (n-1), one behind another
+unfoldable pub gathered {ℓ} : {A : Type ℓ} → (ℕ → List A) → ℕ → List A
+gathered f zero = []
+gathered f (suc n) = gathered f n ++ f n
 
 -- A buffer with these bytes in place of those from a place on.
 unfoldable pub pasted : List ℕ → ℕ → List ℕ → List ℕ
 pasted s at bytes = take at s ++ bytes ++ drop (at + length bytes) s
+
+-- A buffer with these fields from a place on.
+abbrev pub stamped : List ℕ → ℕ → List Field → List ℕ
+stamped s at fields = pasted s at (bytesOf fields)
