@@ -3,11 +3,12 @@
 // that cannot be written.
 ghost use mathlib.Core.Path.{_≡_};
 ghost use lib.ListN.{length};
+ghost use Rattle.card_core.specs.Card.{overlong};
 ghost use Rattle.card.specs.Outcome.{Carded};
-use card_core::Parsed;
+use card_core::OVERLONG;
 use card_core::key_of;
-use card_core::parse;
 use card_core::write_card;
+use decimal::Parsed;
 use fingerprint::Key;
 use libc::STDERR_FILENO;
 use libc::STDIN_FILENO;
@@ -33,10 +34,16 @@ struct Outcome {
 }
 
 // One byte more than the longest passage, so that a longer one is seen.
-fn passage_buffer() -> [u8; 1048577]
-    ensures { λ r. ⌜ 1048577 ≡ length r ⌝ }
+const PASSAGE_ROOM: usize = OVERLONG as usize;
+
+// Room for an argument: more than the digits that are read, so that a longer one is seen.
+const ARGUMENT_ROOM: usize = 16;
+
+// The room of a passage.
+fn passage_buffer() -> [u8; PASSAGE_ROOM]
+    ensures { λ r. ⌜ overlong ≡ length r ⌝ }
 {
-    [0; 1048577]
+    [0; PASSAGE_ROOM]
 }
 
 // A clear word on the argument.
@@ -115,9 +122,9 @@ fn main() {
         complain();
         return;
     }
-    let mut text = [0u8; 16];
+    let mut text = [0u8; ARGUMENT_ROOM];
     let n = os::arg(1, &mut text);
-    let argument = parse(&text[..n]);
+    let argument = decimal::parse(&text[..n]);
     let Parsed::Number(number) = argument else {
         complain();
         return;

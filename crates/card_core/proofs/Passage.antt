@@ -1,4 +1,4 @@
--- The maker led through a whole passage: every byte is taken, and then the card is given, which is the passage's own.
+-- The builder led through a whole passage: every byte is taken, and then the card is given, which is the passage's own.
 -- Assumes nothing.
 use Prim.Native.Nat.{ℕ, _+_, _<_, min}
 use mathlib.Core.Path.{_≡_, refl, sym, _∙_, ap, subst₂}
@@ -18,20 +18,20 @@ use Rattle.signature.specs.declared.Builder.{Builder}
 use Rattle.signature.specs.Signature.{maxLength, noSignature, signatureOf}
 use Rattle.signature.specs.Calls.{beginRefusal, begun, afterPush, finishRefusal, finished}
 use Rattle.signature.specs.Made.{Making, begins, takes}
-use Rattle.card_core.specs.Card.{makeRefusal, madeSignature}
+use Rattle.card_core.specs.Card.{overlong, makeRefusal, madeSignature}
 use Rattle.made_from.proofs.Calls.{length-limits, begin-tells, push-accepted, finish-accepted}
 use Rattle.made_from.proofs.Made.{making-state, made-card}
 
--- the length that the maker is told stands for every length above the longest
-told-refusal : (n : ℕ) (key : Key) → beginRefusal (min n 1048577) key ≡ beginRefusal n key
+-- the length that the builder is told stands for every length above the longest
+told-refusal : (n : ℕ) (key : Key) → beginRefusal (min n overlong) key ≡ beginRefusal n key
 told-refusal n key =
-    elim (decLe n 1048577) [
+    elim (decLe n overlong) [
       | yes l ↦ rw (min-eq-left l)
       | no l ↦
-          rw (min-eq-right {n = 1048577} {m = n} (omega arith), ne-eqb n 0 (omega arith), lt-ltb maxLength n (omega arith))
+          rw (min-eq-right {n = overlong} {m = n} (omega arith), ne-eqb n 0 (omega arith), lt-ltb maxLength n (omega arith))
     ]
 
-accepted-length : (n : ℕ) (key : Key) → beginRefusal n key ≡ 0 → min n 1048577 ≡ n
+accepted-length : (n : ℕ) (key : Key) → beginRefusal n key ≡ 0 → min n overlong ≡ n
 accepted-length n key e = omega (arith, length-limits n (begin-tells n key e .0))
 
 -- What beginning with that length gives.
@@ -40,7 +40,7 @@ pub record Began (n : ℕ) (key : Key) (b : Builder) : Type 0 where
   pub same-key : b .key ≡ key
   pub making : Making n (b .key) [] b
 
-module _ (n : ℕ) (key : Key) (v : Verdict) (m : ℕ) (length-told : m ≡ min n 1048577) (number-told : number v ≡ beginRefusal m key) where
+module _ (n : ℕ) (key : Key) (v : Verdict) (m : ℕ) (length-told : m ≡ min n overlong) (number-told : number v ≡ beginRefusal m key) where
   pub begin-number : number v ≡ beginRefusal n key
   begin-number = number-told ∙ ap (λ k. beginRefusal k key) length-told ∙ told-refusal n key
 

@@ -1,15 +1,19 @@
 -- A card made from a whole passage (document 01, "Card"): the refusals of its begin, and else the passage's own card.
-use Prim.Native.Nat.{ℕ}
+use Prim.Native.Nat.{ℕ, _+_}
 use mathlib.Core.Bool.{cond}
 use mathlib.Core.List.{List, _++_}
 use lib.ListN.{length, drop}
 use lib.Dec.{eqb}
 use Rattle.fingerprint.specs.declared.Key.{Key}
 use Rattle.signature.specs.declared.Signature.{Signature}
-use Rattle.signature.specs.Signature.{noSignature, signatureOf}
+use Rattle.signature.specs.Signature.{maxLength, noSignature, signatureOf}
 use Rattle.signature.specs.Calls.{beginRefusal}
 use Rattle.record.specs.Layout.{signatureRecord}
 use Rattle.record.specs.Calls.{before, writeRefusal}
+
+-- One more than the longest passage.
+abbrev pub overlong : ℕ
+overlong = maxLength + 1
 
 -- 1 empty, 2 overlong, 3 key
 abbrev pub makeRefusal : Key → List ℕ → ℕ

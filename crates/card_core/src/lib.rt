@@ -2,64 +2,46 @@
 ghost use mathlib.Core.Path.{_≡_};
 ghost use Prim.Native.Nat.{min};
 ghost use Rattle.refusal.specs.Number.{number};
-ghost use Rattle.card_core.specs.Card.{makeRefusal, madeSignature, cardRefusal, cardUsed, cardBuffer};
-ghost use Rattle.card_core.specs.Argument.{parsed, keyOf};
+ghost use Rattle.card_core.specs.Card.{overlong, makeRefusal, madeSignature, cardRefusal, cardUsed, cardBuffer};
+ghost use Rattle.card_core.specs.Argument.{mostKey, argumentKey};
 use fingerprint::Key;
 use record::Written;
 use record::write_signature;
 use refusal::Verdict;
 use signature::Builder;
 use signature::Finished;
+use signature::MAX_LENGTH;
 use signature::Signature;
 
-// What an argument says: a number, or none.
-pub enum Parsed {
-    Bad,
-    Number(u64),
-}
+// The largest number that a key's field holds.
+const MOST_KEY: u32 = 4294967295;
 
-// A decimal number of at most ten digits.
-pub fn parse(text: &[u8]) -> Parsed
-    ensures { λ r. ⌜ r ≡ parsed (now (text .entry)) ⌝ }
+// One more than the longest passage.
+pub const OVERLONG: u32 = MAX_LENGTH + 1;
+
+// The number in a key's field: the largest that fits stands for every number above.
+fn field(n: u64) -> u32
+    ensures { λ r. ⌜ r ≡ min n mostKey ⌝ }
 {
-    if text.len() < 1 {
-        return Parsed::Bad;
+    if (MOST_KEY as u64) < n {
+        return MOST_KEY;
     }
-    if 10 < text.len() {
-        return Parsed::Bad;
-    }
-    let mut value: u64 = 0;
-    let mut i: usize = 0;
-    while i < text.len() {
-        let c = text[i];
-        if c < b'0' {
-            return Parsed::Bad;
-        }
-        if b'9' < c {
-            return Parsed::Bad;
-        }
-        value = 10 * value + (c - b'0') as u64;
-        i = i + 1;
-    }
-    Parsed::Number(value)
+    n as u32
 }
 
 // The key of a number; one that is too large for a key's field is refused as the largest that fits is.
 pub fn key_of(n: u64) -> Key
-    ensures { λ key. ⌜ key ≡ keyOf n ⌝ }
+    ensures { λ key. ⌜ key ≡ argumentKey n ⌝ }
 {
-    if 4294967295 < n {
-        return Key { r: 4294967295 };
-    }
-    Key { r: n as u32 }
+    Key { r: field(n) }
 }
 
-// The length that the maker is told: one more than the longest stands for every length above.
+// The length that the builder is told: one more than the longest stands for every length above.
 fn told(length: usize) -> u32
-    ensures { λ m. ⌜ m ≡ min length 1048577 ⌝ }
+    ensures { λ m. ⌜ m ≡ min length overlong ⌝ }
 {
-    if 1048577 < length {
-        return 1048577;
+    if (OVERLONG as usize) < length {
+        return OVERLONG;
     }
     length as u32
 }

@@ -5,9 +5,9 @@ use mathlib.Core.List.{List, [], _∷_}
 use mathlib.Core.Option.{Option, none, some}
 use lib.Dec.{eqb}
 use Rattle.fingerprint.specs.declared.Key.{Key}
-use Rattle.fingerprint.specs.Fingerprint.{fp, same}
+use Rattle.fingerprint.specs.Fingerprint.{fp, same, numberedKey, printNumber}
 use Rattle.ladder.specs.Prefix.{levels}
-use Rattle.ladder.specs.Ladder.{answerAt}
+use Rattle.ladder.specs.Ladder.{testsOf, answerAt}
 use Rattle.signature.specs.Signature.{signatureOf}
 use Rattle.signature.specs.Calls.{beginRefusal}
 use Rattle.matcher.specs.declared.Ring.{Ring}
@@ -27,7 +27,7 @@ abbrev pub _gives_ : ℕ → ℕ → Case
 got gives want = record { got = got; want = want }
 
 abbrev pub key : ℕ → Key
-key r = record { r = r }
+key r = numberedKey r
 
 -- The bytes of M9 to M12.
 abbrev pub m9 : List ℕ
@@ -49,7 +49,7 @@ ringNumber (some start) = suc start
 
 -- The ring at byte t of a stream, with p as passage and blocks compared by their fingerprints under a key.
 abbrev pub ringAt : Key → List ℕ → List ℕ → ℕ → ℕ
-ringAt k p stream t = ringNumber (answerAt (λ u v. same (fp k u) (fp k v)) p stream t .ring)
+ringAt k p stream t = ringNumber (answerAt (testsOf (λ u v. same (fp k u) (fp k v)) p) stream t .ring)
 
 -- The same of the ring that a stroke answers.
 abbrev pub strokeNumber : Ring → ℕ
@@ -90,14 +90,14 @@ cases =
     ∷ beginRefusal 1 (key 2147483646) gives 0
     ∷ beginRefusal 1 (key 2147483647) gives 3
     -- "M9 key 2, bytes 1 1 1 0 and M10 1 1 0 2: both print 14."
-    ∷ fp (key 2) m9 .value gives 14
-    ∷ fp (key 2) m10 .value gives 14
+    ∷ printNumber (fp (key 2) m9) gives 14
+    ∷ printNumber (fp (key 2) m10) gives 14
     -- "With the first as passage, the second as stream rings start 0 at byte 4, a phantom": the stream is not the passage.
     ∷ ringAt (key 2) m9 m10 4 gives suc 0
     ∷ sameBytes m10 m9 gives 0
     -- The strokes ring it too, from the fresh watch of the first one's card on.
     ∷ struckRing (fresh (signatureOf (key 2) m9)) m10 gives suc 0
     -- "M11 key 2, 1 1 1 1 and M12 1 1 0 3: both 15."
-    ∷ fp (key 2) m11 .value gives 15
-    ∷ fp (key 2) m12 .value gives 15
+    ∷ printNumber (fp (key 2) m11) gives 15
+    ∷ printNumber (fp (key 2) m12) gives 15
     ∷ []

@@ -1,3 +1,3 @@
 pub mod Modular
-pub mod Power
+pub mod Powers
 pub mod Laws

@@ -33,5 +33,6 @@ pub mul-mod-right-factor : (m a b : ℕ) → a * (b % m) % m ≡ a * b % m
 mul-mod-right-factor m a b =
     same-residue m (a * (b % m)) (a * b) (a * (b / m)) 0 (omega (arith, ap (λ (x : ℕ). a * x) (mod-add-div b m)))
 
-pub product-at-most : {a b : ℕ} (A B : ℕ) → a ≤ A → b ≤ B → a * b ≤ A * B
-product-at-most A B ha hb = mul-le-mul ha hb
+-- The product of two 32-bit numbers leaves room for a third in 64 bits.
+pub product-wide : {a b : ℕ} → a ≤ 4294967295 → b ≤ 4294967295 → a * b ≤ 18446744065119617025
+product-wide ha hb = mul-le-mul ha hb

@@ -1,11 +1,36 @@
 // Karp-Rabin fingerprints of byte blocks (document 01, "Fingerprints").
 ghost use mathlib.Core.Path.{_≡_};
-ghost use Prim.Native.Nat.{_^_, _%_};
-ghost use Rattle.fingerprint.specs.Fingerprint.{p, empty, pushed, joined, rest, restBy, keyFits, printFits, same};
+ghost use Rattle.fingerprint.specs.Fingerprint.{
+  empty,
+  pushed,
+  joined,
+  joinedBy,
+  rest,
+  restBy,
+  power,
+  squared,
+  keyFits,
+  sameKey,
+  printFits,
+  same,
+  bytePrint,
+  isBytePrint,
+  keyNumber,
+  numberedKey,
+  printNumber,
+  numberedPrint,
+  noKey,
+  noPower,
+};
 
 // The key r, under which all fingerprints of a signature are taken.
 pub struct Key {
     pub r: u32,
+}
+
+// A power of a key, modulo P.
+pub struct Power {
+    pub value: u32,
 }
 
 // The fingerprint of a block of bytes: a number below P.
@@ -14,6 +39,27 @@ pub struct Fingerprint {
 }
 
 impl Key {
+    // The key that is this number, within document 01's limits or not.
+    pub fn new(r: u32) -> Self
+        ensures { λ key. ⌜ key ≡ numberedKey r ⌝ }
+    {
+        Self { r }
+    }
+
+    // What stands where there is no key.
+    pub fn none() -> Self
+        ensures { λ key. ⌜ key ≡ noKey ⌝ }
+    {
+        Self { r: 0 }
+    }
+
+    // The number that the key is.
+    pub fn number(self) -> u32
+        ensures { λ n. ⌜ n ≡ keyNumber self ⌝ }
+    {
+        self.r
+    }
+
     // Whether r is from 2 to P - 1: document 01's key limits.
     pub fn fits(self) -> bool
         ensures { λ ok. ⌜ ok ≡ keyFits self ⌝ }
@@ -24,19 +70,47 @@ impl Key {
         (self.r as u64) <= Fingerprint::P - 1
     }
 
+    // Whether two keys are equal.
+    pub fn equals(self, other: Key) -> bool
+        ensures { λ ok. ⌜ ok ≡ sameKey self other ⌝ }
+    {
+        self.r == other.r
+    }
+
     // r to the n, modulo P, by halving the exponent.
-    pub fn power(self, n: u64) -> u64
-        ensures { λ v. ⌜ v ≡ (self .r) ^ n % p ⌝ }
+    pub fn power(self, n: u64) -> Power
+        ensures { λ a. ⌜ a ≡ power self n ⌝ }
     {
         if n == 0 {
-            return 1;
+            return Power { value: 1 };
         }
         let half = self.power(n / 2);
-        let square = half * half % Fingerprint::P;
+        let square = half.squared();
         if n % 2 == 0 {
-            square
-        } else {
-            square * (self.r as u64) % Fingerprint::P
+            return square;
+        }
+        let odd = (square.value as u64) * (self.r as u64);
+        Power {
+            value: (odd % Fingerprint::P) as u32,
+        }
+    }
+}
+
+impl Power {
+    // What stands where there is no power.
+    pub fn none() -> Self
+        ensures { λ a. ⌜ a ≡ noPower ⌝ }
+    {
+        Power { value: 0 }
+    }
+
+    // The power with twice the exponent.
+    pub fn squared(self) -> Self
+        ensures { λ a. ⌜ a ≡ squared self ⌝ }
+    {
+        let square = (self.value as u64) * (self.value as u64);
+        Self {
+            value: (square % Fingerprint::P) as u32,
         }
     }
 }
@@ -50,6 +124,27 @@ impl Fingerprint {
         ensures { λ f. ⌜ f ≡ empty ⌝ }
     {
         Self { value: 0 }
+    }
+
+    // The fingerprint of one byte, under any key.
+    pub fn of_byte(byte: u8) -> Self
+        ensures { λ f. ⌜ f ≡ bytePrint byte ⌝ }
+    {
+        Self { value: byte as u32 }
+    }
+
+    // The fingerprint that is this number, below P or not.
+    pub fn of_number(n: u32) -> Self
+        ensures { λ f. ⌜ f ≡ numberedPrint n ⌝ }
+    {
+        Self { value: n }
+    }
+
+    // The number that the fingerprint is.
+    pub fn number(self) -> u32
+        ensures { λ n. ⌜ n ≡ printNumber self ⌝ }
+    {
+        self.value
     }
 
     // The fingerprint of the block with one byte more.
@@ -67,7 +162,14 @@ impl Fingerprint {
         ensures { λ f. ⌜ f ≡ joined key self other length ⌝ }
     {
         let shift = key.power(length);
-        let sum = (self.value as u64) * shift + (other.value as u64);
+        self.join_by(other, shift)
+    }
+
+    // The same, where `shift` is r to the length of the other block.
+    pub fn join_by(self, other: Fingerprint, shift: Power) -> Self
+        ensures { λ f. ⌜ f ≡ joinedBy shift self other ⌝ }
+    {
+        let sum = (self.value as u64) * (shift.value as u64) + (other.value as u64);
         Self {
             value: (sum % Self::P) as u32,
         }
@@ -77,14 +179,15 @@ impl Fingerprint {
     pub fn cut(self, key: Key, front: Fingerprint, length: u64) -> Self
         ensures { λ f. ⌜ f ≡ rest key self front length ⌝ }
     {
-        self.cut_by(front, key.power(length) as u32)
+        let shift = key.power(length);
+        self.cut_by(front, shift)
     }
 
     // The same, where `shift` is r to the number of those bytes.
-    pub fn cut_by(self, front: Fingerprint, shift: u32) -> Self
+    pub fn cut_by(self, front: Fingerprint, shift: Power) -> Self
         ensures { λ f. ⌜ f ≡ restBy shift self front ⌝ }
     {
-        let past = (front.value as u64) * (shift as u64) % Self::P;
+        let past = (front.value as u64) * (shift.value as u64) % Self::P;
         let sum = (self.value as u64) + (Self::P - past);
         Self {
             value: (sum % Self::P) as u32,
@@ -103,5 +206,12 @@ impl Fingerprint {
         ensures { λ ok. ⌜ ok ≡ printFits self ⌝ }
     {
         (self.value as u64) < Self::P
+    }
+
+    // Whether it is the fingerprint of one byte.
+    pub fn is_of_byte(self) -> bool
+        ensures { λ ok. ⌜ ok ≡ isBytePrint self ⌝ }
+    {
+        self.value <= 255
     }
 }

@@ -30,18 +30,17 @@ first-is (x ∷ xs) s a low (inr q) = absurd (omega (arith, a .0 s q, low x (inl
 
 -- Whether a stage is ripe is decided by its first start.
 pub ripe-head :
-    (agree : List ℕ → List ℕ → Bool) (p h : List ℕ) (t i x : ℕ) (xs : List ℕ)
+    (m : ℕ) (h : List ℕ) (t i x : ℕ) (xs : List ℕ)
     → length h ≡ suc t
-    → Aged (length p) t i (x ∷ xs)
-    → ripe agree p h (prefixLength (length p) (suc i)) (x ∷ xs)
-    ≡ leb (prefixLength (length p) (suc i)) (length h) && eqb x (length h - prefixLength (length p) (suc i))
+    → Aged m t i (x ∷ xs)
+    → ripe h (prefixLength m (suc i)) (x ∷ xs)
+    ≡ leb (prefixLength m (suc i)) (length h) && eqb x (length h - prefixLength m (suc i))
 unfolding lists
-ripe-head agree p h t i x xs now a =
+ripe-head m h t i x xs now a =
     rw
-    (absent-lists xs (length h - prefixLength (length p) (suc i))
+    (absent-lists xs (length h - prefixLength m (suc i))
     (λ q. omega (arith, a .young x (inl refl), a .ascends .0 _ q)))
-    (ap (λ b. leb (prefixLength (length p) (suc i)) (length h) && b)
-    (go (eqb x (length h - prefixLength (length p) (suc i)))))
+    (ap (λ b. leb (prefixLength m (suc i)) (length h) && b) (go (eqb x (length h - prefixLength m (suc i)))))
   where
     go : (b : Bool) → b || false ≡ b
     go true = refl
@@ -49,10 +48,10 @@ ripe-head agree p h t i x xs now a =
 
 -- Nothing that is too young is ripe.
 pub unripe :
-    (agree : List ℕ → List ℕ → Bool) (p h : List ℕ) (n : ℕ) (xs : List ℕ)
+    (h : List ℕ) (n : ℕ) (xs : List ℕ)
     → ((s : ℕ) → Has xs s → length h < s + n)
-    → ripe agree p h n xs ≡ false
-unripe agree p h n xs late = go (leb n (length h)) refl
+    → ripe h n xs ≡ false
+unripe h n xs late = go (leb n (length h)) refl
   where
     go : (b : Bool) → leb n (length h) ≡ b → b && lists xs (length h - n) ≡ false
     go true e = absent-lists xs _ (λ q. omega (arith, late _ q, leb-true n (length h) e))

@@ -2,11 +2,10 @@
 use Prim.Native.Nat.{ℕ, _-_, _≤_, _<_}
 use mathlib.Core.Path.{_≡_, sym, subst}
 use mathlib.Core.Logic.{_⊎_, inl, inr}
-use mathlib.Core.Bool.{Bool}
 use mathlib.Core.List.{List, [], _∷_, append-nil}
 use native.Mathlib.Omega.{arith}
 use lib.ListN.{length}
-use Rattle.ladder.specs.Ladder.{lastOf, enter}
+use Rattle.ladder.specs.Ladder.{Tests, lastOf, enter}
 use Rattle.ladder.specs.Claim.{startsFrom, startsOf, times}
 use Rattle.ladder.proofs.Starts.{Has, Ascending, has-left, has-last}
 use Rattle.ladder.proofs.Enter.{enter-cases, breaks-last}
@@ -54,15 +53,15 @@ front-ascending d x (y ∷ ys) q a =
     (λ s r. a .0 s (front-below d y ys (q .1) (a .1) s r .0), front-ascending d y ys (q .1) (a .1))
 
 -- The starts of a stage that is entered, if they rise and are even.
-module _ (agree : List ℕ → List ℕ → Bool) (p h xs : List ℕ) (z : ℕ) (up : Ascending xs) (even : Even xs) where
+module _ (tests : Tests) (h xs : List ℕ) (z : ℕ) (up : Ascending xs) (even : Even xs) where
   -- A start that was listed is listed still, or set aside.
   pub enter-keeps :
       (s : ℕ)
       → Has xs s
-      → Has (enter agree p h xs z .listed) s ⊎ Has (startsOf (enter agree p h xs z .aside)) s
+      → Has (enter tests h xs z .listed) s ⊎ Has (startsOf (enter tests h xs z .aside)) s
   unfolding startsOf lastOf
   enter-keeps s q =
-      enter-cases agree p h (λ e. Has (e .listed) s ⊎ Has (startsOf (e .aside)) s) xs z
+      enter-cases tests h (λ e. Has (e .listed) s ⊎ Has (startsOf (e .aside)) s) xs z
       (λ f. inl (has-left xs (z ∷ []) s q))
       (λ b.
       elim
@@ -76,25 +75,25 @@ module _ (agree : List ℕ → List ℕ → Bool) (p h xs : List ℕ) (z : ℕ) 
   pub enter-drops :
       ((s : ℕ) → Has xs s → s < z)
       → (s : ℕ)
-      → Has (startsOf (enter agree p h xs z .aside)) s
-      → Has xs s × (Has (enter agree p h xs z .listed) s → ⊥)
+      → Has (startsOf (enter tests h xs z .aside)) s
+      → Has xs s × (Has (enter tests h xs z .listed) s → ⊥)
   unfolding startsOf lastOf
   enter-drops above s =
-      enter-cases agree p h (λ e. Has (startsOf (e .aside)) s → Has xs s × (Has (e .listed) s → ⊥)) xs z
+      enter-cases tests h (λ e. Has (startsOf (e .aside)) s → Has xs s × (Has (e .listed) s → ⊥)) xs z
       (λ f q. absurd q)
       (λ b q.
       let r : Has (b .x ∷ b .y ∷ b .more) s × (s < lastOf (b .y) (b .more)) =
       front-below (b .y - b .x) (b .x) (b .y ∷ b .more) (subst Even (b .shape) even)
       (subst Ascending (b .shape) up) s (rw append-nil at q)
       in
-      let o : lastOf (b .y) (b .more) < z = above (lastOf (b .y) (b .more)) (breaks-last agree p h xs z b) in
+      let o : lastOf (b .y) (b .more) < z = above (lastOf (b .y) (b .more)) (breaks-last tests h xs z b) in
       (rw (b .shape) (r .0), λ l. elim l [ inl e ↦ omega arith | inr m ↦ elim m [ inl e ↦ omega arith | inr n ↦ n ] ]))
 
   -- No start is set aside twice.
-  pub enter-once : (s : ℕ) → times s (startsOf (enter agree p h xs z .aside)) ≤ 1
+  pub enter-once : (s : ℕ) → times s (startsOf (enter tests h xs z .aside)) ≤ 1
   unfolding startsOf
   enter-once s =
-      enter-cases agree p h (λ e. times s (startsOf (e .aside)) ≤ 1) xs z (λ f. times-ascending [] s tt)
+      enter-cases tests h (λ e. times s (startsOf (e .aside)) ≤ 1) xs z (λ f. times-ascending [] s tt)
       (λ b.
       rw append-nil
       (times-ascending _ s

@@ -7,23 +7,22 @@ use mathlib.Core.List.{List, [], _++_}
 use mathlib.Core.Option.{Option, none, some}
 use lib.ListN.{length, take}
 use lib.Dec.{eqb}
-use Rattle.ladder.specs.Prefix.{block, levels, prefixLength, prefix}
-use Rattle.ladder.specs.Ladder.{Progression, Stages, without, Entered, Walk, enter, ripe, after}
+use Rattle.ladder.specs.Prefix.{block, levels, prefixLength}
+use Rattle.ladder.specs.Ladder.{Tests, Progression, Stages, without, Entered, Walk, enter, ripe, after}
 
--- A byte as the ladder meets it: the test, the pattern, the history with this byte, and the stages before it.
+-- A byte as the ladder meets it: the tests, the history with this byte, and the stages before it.
 pub record Byte : Type 0 where
-  pub agree : List ℕ → List ℕ → Bool
-  pub pattern : List ℕ
+  pub tests : Tests
   pub history : List ℕ
   pub stages : Stages
 
 module _ (c : Byte) where
   -- k, |P_i|, and the start that is due at P_i: t - |P_i|
   abbrev pub top : ℕ
-  top = levels (length (c .pattern))
+  top = levels (c .tests .length)
 
   abbrev pub size : ℕ → ℕ
-  size i = prefixLength (length (c .pattern)) i
+  size i = prefixLength (c .tests .length) i
 
   abbrev pub due : ℕ → ℕ
   due i = length (c .history) - size i
@@ -31,10 +30,10 @@ module _ (c : Byte) where
   -- Whether a start is compared with P_i at this byte: at P_0 always, further up if the stage below lists the start due.
   unfoldable pub tested : ℕ → Bool
   tested zero = true
-  tested (suc i) = ripe (c .agree) (c .pattern) (c .history) (size (suc i)) (c .stages i)
+  tested (suc i) = ripe (c .history) (size (suc i)) (c .stages i)
 
   abbrev pub agrees : ℕ → Bool
-  agrees i = c .agree (block (c .history) (due i) (size i)) (prefix (c .pattern) i)
+  agrees i = c .tests .matches i (block (c .history) (due i) (size i))
 
   abbrev pub matched : ℕ → Bool
   matched i = tested i && agrees i
@@ -48,7 +47,7 @@ module _ (c : Byte) where
   enters i = matched i && not (eqb i top)
 
   abbrev pub joins : List ℕ → ℕ → Entered
-  joins = enter (c .agree) (c .pattern) (c .history)
+  joins = enter (c .tests) (c .history)
 
   abbrev pub came : ℕ → Bool → Entered
   came i x = cond x (joins (rest i) (due i)) (record { listed = rest i; aside = [] })
@@ -77,5 +76,5 @@ module _ (c : Byte) where
     pub comparisons : w .answer .comparisons ≡ suc (ripes top)
 
 -- Byte number t + 1 of a stream h.
-abbrev pub byteAt : (List ℕ → List ℕ → Bool) → List ℕ → List ℕ → ℕ → Byte
-byteAt agree p h t = record { agree = agree; pattern = p; history = take (suc t) h; stages = after agree p h t }
+abbrev pub byteAt : Tests → List ℕ → ℕ → Byte
+byteAt tests h t = record { tests = tests; history = take (suc t) h; stages = after tests h t }

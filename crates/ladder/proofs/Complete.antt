@@ -9,7 +9,7 @@ use native.Mathlib.Omega.{arith}
 use lib.ListN.{length, take}
 use borrow.Author.Tests.{ne-eqb}
 use Rattle.ladder.specs.Prefix.{block, levels, prefixLength, prefix}
-use Rattle.ladder.specs.Ladder.{after}
+use Rattle.ladder.specs.Ladder.{testsOf, after}
 use Rattle.ladder.proofs.Levels.{length-positive, length-rises}
 use Rattle.ladder.proofs.Starts.{Has}
 use Rattle.ladder.proofs.Blocks.{block-take, prefix-front}
@@ -30,17 +30,17 @@ module _ (agree : List ℕ → List ℕ → Bool) (p h : List ℕ) where
       → s + prefixLength (length p) i ≤ t
       → t < s + prefixLength (length p) (suc i)
       → block h s (prefixLength (length p) i) ≡ prefix p i
-      → Has (after agree p h t i) s ⊎ Dropped agree p h t s
+      → Has (after (testsOf agree p) h t i) s ⊎ Dropped (testsOf agree p) h t s
 
 module _
     (agree : List ℕ → List ℕ → Bool) (same : (u : List ℕ) → agree u u ≡ true) (p h : List ℕ) (long : 1 ≤ length p)
   where
     module _ (t : ℕ) (l : t < length h) where
       abbrev c : Byte
-      c = byteAt agree p h t
+      c = byteAt (testsOf agree p) h t
 
       w : Met c t
-      w = met agree p h long t l
+      w = met (testsOf agree p) h long t l
 
       -- A start at which P_i stands comes to be tried, unless it was set aside.
       pub comes-up :
@@ -49,7 +49,7 @@ module _
           → i ≤ levels (length p)
           → s + prefixLength (length p) i ≡ suc t
           → block h s (prefixLength (length p) i) ≡ prefix p i
-          → (tested c i ≡ true) ⊎ Dropped agree p h t s
+          → (tested c i ≡ true) ⊎ Dropped (testsOf agree p) h t s
       unfolding tested
       comes-up full zero s k e stands = inl refl
       comes-up full (suc i) s k e stands =
@@ -71,31 +71,31 @@ module _
           let d : due c i ≡ s = omega (arith, w .now) in
           (d, rw (tried, d, block-take (suc t) s (prefixLength (length p) i) h (omega arith), stands) (same (prefix p i)))
 
-      later : (s : ℕ) → Dropped agree p h t s → Dropped agree p h (suc t) s
+      later : (s : ℕ) → Dropped (testsOf agree p) h t s → Dropped (testsOf agree p) h (suc t) s
       later s d = (d .0, d .1, omega (arith, d .2), d .3)
 
-      aside-now : (i s : ℕ) → i < top c → Has (setAt c i) s → Dropped agree p h (suc t) s
+      aside-now : (i s : ℕ) → i < top c → Has (setAt c i) s → Dropped (testsOf agree p) h (suc t) s
       aside-now i s k q = (
         suc t,
         omega arith,
         omega arith,
-        rw (answer-aside agree p h long t l)
-            (asides-has w (after-even agree p h long t (omega arith)) (top c) i s k q),
+        rw (answer-aside (testsOf agree p) h long t l)
+            (asides-has w (after-even (testsOf agree p) h long t (omega arith)) (top c) i s k q),
       )
 
       listed-new : (i s : ℕ) → i < top c → (due c i ≡ s) × (matched c i ≡ true) → Has (entered c i .listed) s
       listed-new i s k m =
           subst (Has (entered c i .listed)) (m .0)
-          (rw (m .1, ne-eqb i (top c) (λ e. omega arith)) (enter-new agree p (take (suc t) h) (rest c i) (due c i)))
+          (rw (m .1, ne-eqb i (top c) (λ e. omega arith)) (enter-new (testsOf agree p) (take (suc t) h) (rest c i) (due c i)))
 
       complete-next : Complete agree p h t → Complete agree p h (suc t)
-      complete-next full i s k old young stands = rw (after-stage agree p h long t l i) (by-age (decLe (s + size c i) t))
+      complete-next full i s k old young stands = rw (after-stage (testsOf agree p) h long t l i) (by-age (decLe (s + size c i) t))
         where
-          by-age : Dec (s + size c i ≤ t) → Has (entered c i .listed) s ⊎ Dropped agree p h (suc t) s
+          by-age : Dec (s + size c i ≤ t) → Has (entered c i .listed) s ⊎ Dropped (testsOf agree p) h (suc t) s
           by-age (yes a) =
               elim (full i s k a (omega arith) stands) [
                 | inl q ↦
-                    elim (entered-keeps w (after-even agree p h long t (omega arith)) i s (has-rest w i s q young)) [
+                    elim (entered-keeps w (after-even (testsOf agree p) h long t (omega arith)) i s (has-rest w i s q young)) [
                       | inl r ↦ inl r
                       | inr r ↦ inr (aside-now i s k r)
                     ]

@@ -7,7 +7,7 @@ use native.Mathlib.Omega.{arith}
 use lib.ListN.{length}
 use lib.Dec.{leb}
 use Rattle.ladder.specs.Prefix.{levels, prefixLength}
-use Rattle.ladder.specs.Ladder.{Stages, lists, after, answerAt}
+use Rattle.ladder.specs.Ladder.{Tests, Stages, lists, after, answerAt}
 use Rattle.ladder.proofs.Byte.{byteAt, tested, ripes}
 use Rattle.ladder.proofs.Stages.{met, answer-comparisons}
 
@@ -28,18 +28,18 @@ ripeCount-bound m t stages (suc i) =
     let due : Bool = leb (prefixLength m (suc i)) t && lists (stages i) (t - prefixLength m (suc i)) in
     omega (arith, at-most-one due, ripeCount-bound m t stages i)
 
-module _ (agree : List ℕ → List ℕ → Bool) (p h : List ℕ) (long : 1 ≤ length p) where
+module _ (tests : Tests) (h : List ℕ) (long : 1 ≤ tests .length) where
   ripes-count :
       (t : ℕ)
       → t < length h
       → (n : ℕ)
-      → ripes (byteAt agree p h t) n ≡ ripeCount (length p) (suc t) (after agree p h t) n
+      → ripes (byteAt tests h t) n ≡ ripeCount (tests .length) (suc t) (after tests h t) n
   unfolding ripes ripeCount tested
   ripes-count t l zero = refl
-  ripes-count t l (suc i) = rw (met agree p h long t l .now, ripes-count t l i)
+  ripes-count t l (suc i) = rw (met tests h long t l .now, ripes-count t l i)
 
   pub count-exact :
       (t : ℕ)
       → t < length h
-      → answerAt agree p h (suc t) .comparisons ≡ suc (ripeCount (length p) (suc t) (after agree p h t) (levels (length p)))
-  count-exact t l = answer-comparisons agree p h long t l ∙ ap suc (ripes-count t l (levels (length p)))
+      → answerAt tests h (suc t) .comparisons ≡ suc (ripeCount (tests .length) (suc t) (after tests h t) (levels (tests .length)))
+  count-exact t l = answer-comparisons tests h long t l ∙ ap suc (ripes-count t l (levels (tests .length)))

@@ -2,14 +2,14 @@
 use Prim.Native.Nat.{ℕ, zero, suc, _+_, _-_, _*_, _≤_, _<_}
 use mathlib.Core.Path.{_≡_, refl, ap, subst, _∙_}
 use mathlib.Core.Logic.{inl, inr}
-use mathlib.Core.Bool.{Bool, true, and-eq-true-iff}
+use mathlib.Core.Bool.{true, and-eq-true-iff}
 use mathlib.Core.List.{List, [], _∷_, _++_}
 use native.Mathlib.Omega.{arith}
 use lib.ListN.{length}
 use lib.Dec.{eqb}
 use borrow.Author.Tests.{eqb-true}
 use Rattle.ladder.specs.Prefix.{block}
-use Rattle.ladder.specs.Ladder.{lastOf, after, continues}
+use Rattle.ladder.specs.Ladder.{Tests, lastOf, after, continues}
 use Rattle.ladder.specs.Claim.{startsFrom}
 use Rattle.ladder.proofs.Starts.{Has, Ascending, has-last}
 use Rattle.ladder.proofs.Enter.{Fits, enter-cases, breaks-last}
@@ -84,25 +84,25 @@ steps-snoc d x z (y ∷ ys) q e = (q .0, steps-snoc d y z ys (q .1) e)
 
 -- What it is that a newcomer z continues.
 pub continues-gap :
-    (agree : List ℕ → List ℕ → Bool) (p h : List ℕ) (x y last z : ℕ)
-    → continues agree p h x y last z ≡ true
-    → (z - last ≡ y - x) × (agree (block h last (z - last)) (block h x (y - x)) ≡ true)
-continues-gap agree p h x y last z e =
-    let both : (eqb (z - last) (y - x) ≡ true) × (agree (block h last (z - last)) (block h x (y - x)) ≡ true) =
-    and-eq-true-iff (eqb (z - last) (y - x)) (agree (block h last (z - last)) (block h x (y - x))) .0 e
+    (tests : Tests) (h : List ℕ) (x y last z : ℕ)
+    → continues tests h x y last z ≡ true
+    → (z - last ≡ y - x) × (tests .alike (block h last (z - last)) (block h x (y - x)) ≡ true)
+continues-gap tests h x y last z e =
+    let both : (eqb (z - last) (y - x) ≡ true) × (tests .alike (block h last (z - last)) (block h x (y - x)) ≡ true) =
+    and-eq-true-iff (eqb (z - last) (y - x)) (tests .alike (block h last (z - last)) (block h x (y - x))) .0 e
     in
     (eqb-true (z - last) (y - x) (both .0), both .1)
 
 even-snoc :
-    (agree : List ℕ → List ℕ → Bool) (p h xs : List ℕ) (z : ℕ)
+    (tests : Tests) (h xs : List ℕ) (z : ℕ)
     → Even xs
     → ((s : ℕ) → Has xs s → s < z)
-    → Fits agree p h xs z
+    → Fits tests h xs z
     → Even (xs ++ z ∷ [])
-even-snoc agree p h [] z q below f = tt
-even-snoc agree p h (x ∷ []) z q below f = (omega (arith, below x (inl refl)), tt)
-even-snoc agree p h (x ∷ y ∷ more) z q below f =
-    let gap : z - lastOf y more ≡ y - x = continues-gap agree p h x y (lastOf y more) z f .0 in
+even-snoc tests h [] z q below f = tt
+even-snoc tests h (x ∷ []) z q below f = (omega (arith, below x (inl refl)), tt)
+even-snoc tests h (x ∷ y ∷ more) z q below f =
+    let gap : z - lastOf y more ≡ y - x = continues-gap tests h x y (lastOf y more) z f .0 in
     let above : lastOf y more < z = below (lastOf y more) (inr (has-last y more)) in
     (q .0, steps-snoc (y - x) y z more (q .1) (omega arith))
 
@@ -118,19 +118,19 @@ module _ {c : Byte} {t : ℕ} (w : Met c t) (i : ℕ) (e : Even (c .stages i)) w
   entered-even =
       entered-cases w (λ x. Even (x .listed)) i rest-even
       (λ k.
-      enter-cases (c .agree) (c .pattern) (c .history) (λ x. Even (x .listed)) (rest c i) (due c i)
-      (even-snoc (c .agree) (c .pattern) (c .history) (rest c i) (due c i) rest-even (rest-below w i k))
+      enter-cases (c .tests) (c .history) (λ x. Even (x .listed)) (rest c i) (due c i)
+      (even-snoc (c .tests) (c .history) (rest c i) (due c i) rest-even (rest-below w i k))
       (λ b.
       let above : lastOf (b .y) (b .more) < due c i =
-      rest-below w i k _ (breaks-last (c .agree) (c .pattern) (c .history) (rest c i) (due c i) b)
+      rest-below w i k _ (breaks-last (c .tests) (c .history) (rest c i) (due c i) b)
       in
       (omega arith, tt)))
 
-module _ (agree : List ℕ → List ℕ → Bool) (p h : List ℕ) (long : 1 ≤ length p) where
+module _ (tests : Tests) (h : List ℕ) (long : 1 ≤ tests .length) where
   -- After every byte the gaps of a stage are equal.
-  pub after-even : (t : ℕ) → t ≤ length h → (i : ℕ) → Even (after agree p h t i)
+  pub after-even : (t : ℕ) → t ≤ length h → (i : ℕ) → Even (after tests h t i)
   unfolding after
   after-even zero l i = tt
   after-even (suc t) l i =
-      rw (after-stage agree p h long t l i)
-      (entered-even (met agree p h long t l) i (after-even t (omega arith) i))
+      rw (after-stage tests h long t l i)
+      (entered-even (met tests h long t l) i (after-even t (omega arith) i))

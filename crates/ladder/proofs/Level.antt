@@ -8,17 +8,17 @@ use native.Mathlib.Decide.{ℕ-discrete}
 use native.Mathlib.Omega.{arith}
 use lib.Dec.{eqb}
 use borrow.Author.Tests.{eq-eqb, ne-eqb}
-use Rattle.ladder.specs.Prefix.{block, prefix}
-use Rattle.ladder.specs.Ladder.{Progression, Walk, ringing, entering, promote, compare}
+use Rattle.ladder.specs.Prefix.{block}
+use Rattle.ladder.specs.Ladder.{Progression, Walk, counted, ringing, entering, promote, compare}
 use Rattle.ladder.proofs.Byte.{Byte, top, size, due, tested, matched, rest, enters, joins, came, entered, asides, rung}
 
 module _ (c : Byte) where
   abbrev pub comparing : ℕ → ℕ → Walk → Walk
-  comparing = compare (c .agree) (c .pattern) (c .history)
+  comparing = compare (c .tests) (c .history)
 
   -- whether the block behind s agrees with P_i
   abbrev fits : ℕ → ℕ → Bool
-  fits i s = c .agree (block (c .history) s (size c i)) (prefix (c .pattern) i)
+  fits i s = c .tests .matches i (block (c .history) s (size c i))
 
   -- Comparing the block behind s with P_i: b says whether they agree, e whether i = k.
   abbrev compared : ℕ → ℕ → Walk → Bool → Bool → Walk
@@ -37,20 +37,11 @@ module _ (c : Byte) where
   unfolding compare promote
   compare-closed i s w = go (fits i s) (eqb i (top c))
     where
-      counted : Walk
-      counted =
-          record {
-            stages = w .stages;
-            answer =
-                record { ring = w .answer .ring; aside = w .answer .aside; comparisons = suc (w .answer .comparisons) };
-          }
-
       go :
           (b e : Bool)
           → cond b
-          (cond e (ringing (c .agree) (c .pattern) s counted)
-          (entering (c .agree) (c .pattern) (c .history) i s counted))
-          counted
+          (cond e (ringing s (counted w)) (entering (c .tests) (c .history) i s (counted w)))
+          (counted w)
           ≡ compared i s w b e
       go true true = refl
       go true false = refl

@@ -1,7 +1,6 @@
 -- The number of stages and the lengths of the tested beginnings: k is the least with 2^k ≥ m, and |P_i| is 2^i below k and m at k.
-use Prim.Native.Nat.{ℕ, zero, suc, _+_, _-_, _*_, _^_, _≤_, _<_}
+use Prim.Native.Nat.{ℕ, zero, suc, _+_, _*_, _^_, _≤_, _<_}
 use mathlib.Core.Path.{_≡_}
-use mathlib.Core.Logic.{_⊎_, inl, inr}
 use native.Mathlib.Nat.{zero-add, le-of-suc-le-suc, add-zero, suc-add, add-suc, lt-of-not-le, min-eq-left, min-eq-right}
 use native.Mathlib.Decide.{decLe}
 use native.Mathlib.Omega.{arith}
@@ -51,11 +50,6 @@ least-levels {m} {k} q =
           ]
       | no a ↦ absurd (omega (arith, below-levels m k (lt-of-not-le a), q .reaches))
     ]
-
-pub levels-unique : (m k : ℕ) → m ≤ 2 ^ k → ((k ≡ 0) ⊎ (2 ^ (k - 1) < m)) → levels m ≡ k
-levels-unique m k far (inl e) = least-levels (record { reaches = far; below = λ j l. omega arith })
-levels-unique m k far (inr low) =
-    least-levels (record { reaches = far; below = λ j l. omega (arith, pow-mono {i = j} {j = k - 1} (omega arith)) })
 
 -- The lengths: |P_k| = m, |P_i| = 2^i below, rising strictly and at most doubling.
 pub last-length : (m : ℕ) → prefixLength m (levels m) ≡ m

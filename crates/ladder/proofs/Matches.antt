@@ -9,7 +9,7 @@ use native.Mathlib.Omega.{arith}
 use lib.ListN.{length, take}
 use lib.Seq.{length-take-le}
 use Rattle.ladder.specs.Prefix.{block, levels, prefixLength, prefix}
-use Rattle.ladder.specs.Ladder.{after}
+use Rattle.ladder.specs.Ladder.{Tests, after}
 use Rattle.ladder.specs.Claim.{Collision}
 use Rattle.ladder.proofs.Starts.{Has}
 use Rattle.ladder.proofs.Blocks.{block-take}
@@ -17,15 +17,15 @@ use Rattle.ladder.proofs.Byte.{byteAt, due, agrees}
 use Rattle.ladder.proofs.Visited.{Comes, rest-has, entered-has}
 use Rattle.ladder.proofs.Stages.{met, after-stage}
 
-module _ (agree : List ℕ → List ℕ → Bool) (p h : List ℕ) (long : 1 ≤ length p) where
+module _ (tests : Tests) (h : List ℕ) (long : 1 ≤ tests .length) where
   -- A start that enters a stage agrees with that stage's beginning.
   pub new-matched :
       (t : ℕ) (l : t < length h) (i : ℕ)
-      → Comes (met agree p h long t l) i
-      → agree (block h (due (byteAt agree p h t) i) (prefixLength (length p) i)) (prefix p i) ≡ true
+      → Comes (met tests h long t l) i
+      → tests .matches i (block h (due (byteAt tests h t) i) (prefixLength (tests .length) i)) ≡ true
   new-matched t l i k =
       rw
-      (block-take (suc t) (due (byteAt agree p h t) i) (prefixLength (length p) i) h (omega (arith, k .place)))
+      (block-take (suc t) (due (byteAt tests h t) i) (prefixLength (tests .length) i) h (omega (arith, k .place)))
       at (k .fits)
 
   -- So does every start that a stage lists.
@@ -33,15 +33,15 @@ module _ (agree : List ℕ → List ℕ → Bool) (p h : List ℕ) (long : 1 ≤
       (t : ℕ)
       → t ≤ length h
       → (i s : ℕ)
-      → Has (after agree p h t i) s
-      → agree (block h s (prefixLength (length p) i)) (prefix p i) ≡ true
+      → Has (after tests h t i) s
+      → tests .matches i (block h s (prefixLength (tests .length) i)) ≡ true
   unfolding after
   after-matched zero l i s q = absurd q
   after-matched (suc t) l i s q =
-      elim (entered-has (met agree p h long t l) i s (subst (λ xs. Has xs s) (after-stage agree p h long t l i) q)) [
-        | inl r ↦ after-matched t (omega arith) i s (rest-has (met agree p h long t l) i s r .0)
+      elim (entered-has (met tests h long t l) i s (subst (λ xs. Has xs s) (after-stage tests h long t l i) q)) [
+        | inl r ↦ after-matched t (omega arith) i s (rest-has (met tests h long t l) i s r .0)
         | inr r ↦
-            subst (λ n. agree (block h n (prefixLength (length p) i)) (prefix p i) ≡ true) (r .0) (new-matched t l i (r .1))
+            subst (λ n. tests .matches i (block h n (prefixLength (tests .length) i)) ≡ true) (r .0) (new-matched t l i (r .1))
       ]
 
 -- A block of the first n bytes that agrees with P_i is P_i, unless there is a collision.

@@ -10,7 +10,7 @@ use native.Mathlib.Omega.{arith}
 use lib.ListN.{length, take}
 use lib.Seq.{length-take-le}
 use Rattle.ladder.specs.Prefix.{block, levels, prefixLength}
-use Rattle.ladder.specs.Ladder.{Answer, after, answerAt}
+use Rattle.ladder.specs.Ladder.{Tests, testsOf, Answer, after, answerAt}
 use Rattle.ladder.specs.Claim.{startsOf, times, Occurrence, Rings, SetsAside, Collision}
 use Rattle.ladder.proofs.Levels.{last-length}
 use Rattle.ladder.proofs.Starts.{Has}
@@ -22,36 +22,36 @@ use Rattle.ladder.proofs.Sets.{asides-once}
 use Rattle.ladder.proofs.Fate.{Listed, AsideFacts, RingFacts, put-aside, rung-there, stays-gone}
 use Rattle.ladder.proofs.Count.{ripeCount-bound, count-exact}
 
-module _ (agree : List ℕ → List ℕ → Bool) (p h : List ℕ) (long : 1 ≤ length p) where
+module _ (tests : Tests) (h : List ℕ) (long : 1 ≤ tests .length) where
   abbrev answers : ℕ → Answer
-  answers = answerAt agree p h
+  answers = answerAt tests h
 
   -- Byte number n is number t + 1 for a t below the length, since there is no byte number 0; so Fate.antt knows of it.
   abbrev Known : (ℕ → ℕ → Type 0) → ℕ → ℕ → Type 0
   Known F n s = (t : ℕ) × (n ≡ suc t) × F t s
 
-  ring-known : (s n : ℕ) → n ≤ length h → Rings (answers n) s → Known (RingFacts agree p h) n s
+  ring-known : (s n : ℕ) → n ≤ length h → Rings (answers n) s → Known (RingFacts tests h) n s
   unfolding answerAt
   ring-known s zero l q = absurd (Option·none-ne-some s q)
-  ring-known s (suc t) l q = (t, refl, rung-there agree p h long t l s q)
+  ring-known s (suc t) l q = (t, refl, rung-there tests h long t l s q)
 
-  aside-known : (s n : ℕ) → n ≤ length h → SetsAside (answers n) s → Known (AsideFacts agree p h) n s
+  aside-known : (s n : ℕ) → n ≤ length h → SetsAside (answers n) s → Known (AsideFacts tests h) n s
   unfolding answerAt startsOf times
   aside-known s zero l q = absurd (omega arith)
   aside-known s (suc t) l q =
-      (t, refl, put-aside agree p h long t l s (times-has (startsOf (answers (suc t) .aside)) s q))
+      (t, refl, put-aside tests h long t l s (times-has (startsOf (answers (suc t) .aside)) s q))
 
   -- A start set aside is not listed later.
-  never-again : (s t u : ℕ) → t < u → u ≤ length h → AsideFacts agree p h t s → Listed agree p h u s → ⊥
+  never-again : (s t u : ℕ) → t < u → u ≤ length h → AsideFacts tests h t s → Listed tests h u s → ⊥
   never-again s t u o l q =
       let e : suc t + (u - suc t) ≡ u = omega arith in
-      subst (λ n. Listed agree p h n s → ⊥) e
-      (stays-gone agree p h long (suc t) s (u - suc t) (omega arith) (omega (arith, q .early)) (q .gone))
+      subst (λ n. Listed tests h n s → ⊥) e
+      (stays-gone tests h long (suc t) s (u - suc t) (omega arith) (omega (arith, q .early)) (q .gone))
 
   aside-first : (s n n′ : ℕ) → n ≤ length h → n′ ≤ length h → SetsAside (answers n) s → SetsAside (answers n′) s → n < n′ → ⊥
   aside-first s n n′ l l′ q q′ o =
-      let a : Known (AsideFacts agree p h) n s = aside-known s n l q in
-      let b : Known (AsideFacts agree p h) n′ s = aside-known s n′ l′ q′ in
+      let a : Known (AsideFacts tests h) n s = aside-known s n l q in
+      let b : Known (AsideFacts tests h) n′ s = aside-known s n′ l′ q′ in
       never-again s (a .0) (b .0) (omega arith) (omega arith) (a .2) (b .2 .listed)
 
   pub aside-once : (s n n′ : ℕ) → n ≤ length h → n′ ≤ length h → SetsAside (answers n) s → SetsAside (answers n′) s → n ≡ n′
@@ -65,19 +65,19 @@ module _ (agree : List ℕ → List ℕ → Bool) (p h : List ℕ) (long : 1 ≤
   -- A start is rung at its last byte and set aside before it, so not both.
   pub not-both : (s n n′ : ℕ) → n ≤ length h → n′ ≤ length h → Rings (answers n) s → SetsAside (answers n′) s → ⊥
   not-both s n n′ l l′ q q′ =
-      let a : Known (RingFacts agree p h) n s = ring-known s n l q in
-      let b : Known (AsideFacts agree p h) n′ s = aside-known s n′ l′ q′ in
+      let a : Known (RingFacts tests h) n s = ring-known s n l q in
+      let b : Known (AsideFacts tests h) n′ s = aside-known s n′ l′ q′ in
       elim (a .2 .listed) [
         | inl e ↦
             subst (λ xs. Has xs s)
-            (after-staged agree p h long (b .0) (omega arith) .empty (b .2 .listed .0) (omega arith)) (b .2 .listed .1)
+            (after-staged tests h long (b .0) (omega arith) .empty (b .2 .listed .0) (omega arith)) (b .2 .listed .1)
         | inr x ↦ never-again s (b .0) (a .0) (omega (arith, a .2 .last, b .2 .late)) (omega arith) (b .2) x
       ]
 
   pub rung-once : (s n n′ : ℕ) → n ≤ length h → n′ ≤ length h → Rings (answers n) s → Rings (answers n′) s → n ≡ n′
   rung-once s n n′ l l′ q q′ =
-      let a : Known (RingFacts agree p h) n s = ring-known s n l q in
-      let b : Known (RingFacts agree p h) n′ s = ring-known s n′ l′ q′ in
+      let a : Known (RingFacts tests h) n s = ring-known s n l q in
+      let b : Known (RingFacts tests h) n′ s = ring-known s n′ l′ q′ in
       omega (arith, a .2 .last, b .2 .last)
 
   -- Nor is it in two sets of one byte.
@@ -85,22 +85,23 @@ module _ (agree : List ℕ → List ℕ → Bool) (p h : List ℕ) (long : 1 ≤
   unfolding answerAt startsOf times
   one-set s zero l = omega arith
   one-set s (suc t) l =
-      rw (answer-aside agree p h long t l)
-      (asides-once (met agree p h long t l) (after-even agree p h long t (omega arith)) (levels (length p)) s)
+      rw (answer-aside tests h long t l)
+      (asides-once (met tests h long t l) (after-even tests h long t (omega arith)) (levels (tests .length)) s)
 
   -- One comparison, and one for each stage at the most.
-  pub ceiling : (n : ℕ) → n ≤ length h → answers n .comparisons ≤ suc (levels (length p))
+  pub ceiling : (n : ℕ) → n ≤ length h → answers n .comparisons ≤ suc (levels (tests .length))
   unfolding answerAt
   ceiling zero l = omega arith
   ceiling (suc t) l =
-      rw (count-exact agree p h long t l)
-      (omega (arith, ripeCount-bound (length p) (suc t) (after agree p h t) (levels (length p))))
+      rw (count-exact tests h long t l)
+      (omega (arith, ripeCount-bound (tests .length) (suc t) (after tests h t) (levels (tests .length))))
 
+module _ (agree : List ℕ → List ℕ → Bool) (p h : List ℕ) (long : 1 ≤ length p) where
   -- The block behind a false ring has the length and print of the pattern, and is another.
   false-ring-at :
       (s t : ℕ)
       → t < length h
-      → RingFacts agree p h t s
+      → RingFacts (testsOf agree p) h t s
       → (Occurrence p h s × (suc t ≡ s + length p) → ⊥)
       → Collision agree p (take (suc t) h)
   false-ring-at s t l r untrue =
@@ -131,10 +132,10 @@ module _ (agree : List ℕ → List ℕ → Bool) (p h : List ℕ) (long : 1 ≤
   pub false-ring :
       (s n : ℕ)
       → n ≤ length h
-      → Rings (answers n) s
+      → Rings (answerAt (testsOf agree p) h n) s
       → (Occurrence p h s × (n ≡ s + length p) → ⊥)
       → Collision agree p (take n h)
   false-ring s n l q untrue =
-      let a : Known (RingFacts agree p h) n s = ring-known s n l q in
+      let a : Known (testsOf agree p) h long (RingFacts (testsOf agree p) h) n s = ring-known (testsOf agree p) h long s n l q in
       subst (λ j. Collision agree p (take j h)) (sym (a .1))
       (false-ring-at s (a .0) (omega arith) (a .2) (λ o. untrue (o .0, a .1 ∙ o .1)))

@@ -10,7 +10,7 @@ use lib.ListN.{length, take}
 use lib.Seq.{length-take-le}
 use borrow.Author.Tests.{eq-eqb}
 use Rattle.ladder.specs.Prefix.{block, prefix}
-use Rattle.ladder.specs.Ladder.{lastOf, answerAt}
+use Rattle.ladder.specs.Ladder.{testsOf, lastOf, answerAt}
 use Rattle.ladder.specs.Claim.{startsOf, Collision}
 use Rattle.ladder.proofs.Levels.{length-within, length-doubles}
 use Rattle.ladder.proofs.Starts.{Has, Ascending, has-last, last-greatest}
@@ -33,13 +33,13 @@ module _
     module _
         (t : ℕ) (l : t < length h)
         (clean : Collision agree p (take (suc t) h) → ⊥)
-        (kept : (s : ℕ) → Dropped agree p h t s → ⊥)
+        (kept : (s : ℕ) → Dropped (testsOf agree p) h t s → ⊥)
       where
         abbrev c : Byte
-        c = byteAt agree p h t
+        c = byteAt (testsOf agree p) h t
 
         abbrev w : Met c t
-        w = met agree p h long t l
+        w = met (testsOf agree p) h long t l
 
         module _ (i : ℕ) (k : Comes w i) where
           abbrev word : List ℕ
@@ -53,12 +53,12 @@ module _
           rest-true s q =
               let r : Has (c .stages i) s = rest-has w i s q .0 in
               true-match agree p h (suc t) i s l (omega (arith, k .below)) (omega (arith, w .ok .aged i .old s r))
-              (after-matched agree p h long t (omega arith) i s r) clean
+              (after-matched (testsOf agree p) h long t (omega arith) i s r) clean
 
           new-true : block h (due c i) (size c i) ≡ word
           new-true =
               true-match agree p h (suc t) i (due c i) l (omega (arith, k .below)) (omega (arith, k .place))
-              (new-matched agree p h long t l i k) clean
+              (new-matched (testsOf agree p) h long t l i k) clean
 
           stands : (s : ℕ) → block h s (size c i) ≡ word → Stands h word s
           stands s e = block-stands h word s (rw word-length e)
@@ -73,7 +73,7 @@ module _
               ]
 
           -- Suppose that the newcomer does not continue the starts.
-          module _ (b : Breaks agree p (take (suc t) h) (rest c i) (due c i)) where
+          module _ (b : Breaks (testsOf agree p) (take (suc t) h) (rest c i) (due c i)) where
             abbrev starts : List ℕ
             starts = b .x ∷ b .y ∷ b .more
 
@@ -89,7 +89,7 @@ module _
             before : Prior d starts last
             before =
                 prior d (b .x) (b .y) (b .more)
-                (subst Even (b .shape) (rest-even w i (after-even agree p h long t (omega arith) i))) up
+                (subst Even (b .shape) (rest-even w i (after-even (testsOf agree p) h long t (omega arith) i))) up
 
             -- what is known of a listed start
             of : (s : ℕ) → Has starts s → (s < due c i) × (suc t < s + size c (suc i)) × Stands h word s
@@ -133,7 +133,7 @@ module _
         stage-quiet i =
             entered-cases w (λ x. x .aside ≡ []) i refl
             (λ k.
-            enter-cases agree p (take (suc t) h) (λ x. x .aside ≡ []) (rest c i) (due c i) (λ f. refl)
+            enter-cases (testsOf agree p) (take (suc t) h) (λ x. x .aside ≡ []) (rest c i) (due c i) (λ f. refl)
             (λ b. absurd (impossible i k b)))
 
         stages-quiet : (n : ℕ) → asides c n ≡ []
@@ -141,8 +141,8 @@ module _
         stages-quiet zero = refl
         stages-quiet (suc n) = rw (stage-quiet n, stages-quiet n)
 
-        byte-quiet : answerAt agree p h (suc t) .aside ≡ []
-        byte-quiet = answer-aside agree p h long t l ∙ stages-quiet (top c)
+        byte-quiet : answerAt (testsOf agree p) h (suc t) .aside ≡ []
+        byte-quiet = answer-aside (testsOf agree p) h long t l ∙ stages-quiet (top c)
 
     -- Up to a byte before which there is no collision, nothing is set aside.
     pub quiet :
@@ -151,16 +151,16 @@ module _
         → (Collision agree p (take t h) → ⊥)
         → (n : ℕ)
         → n ≤ t
-        → answerAt agree p h n .aside ≡ []
+        → answerAt (testsOf agree p) h n .aside ≡ []
     unfolding answerAt startsOf
-    quiet zero l clean n o = subst (λ j. answerAt agree p h j .aside ≡ []) {x = 0} {y = n} (omega arith) refl
+    quiet zero l clean n o = subst (λ j. answerAt (testsOf agree p) h j .aside ≡ []) {x = 0} {y = n} (omega arith) refl
     quiet (suc t) l clean n o =
-        let before : (j : ℕ) → j ≤ t → answerAt agree p h j .aside ≡ [] =
+        let before : (j : ℕ) → j ≤ t → answerAt (testsOf agree p) h j .aside ≡ [] =
         quiet t (omega arith) (λ q. clean (collision-later agree p h t l q))
         in
         elim (decLe n t) [
           | yes a ↦ before n a
           | no a ↦
-              subst (λ j. answerAt agree p h j .aside ≡ []) {x = suc t} {y = n} (omega arith)
+              subst (λ j. answerAt (testsOf agree p) h j .aside ≡ []) {x = suc t} {y = n} (omega arith)
               (byte-quiet t l clean (λ s d. subst (λ x. Has (startsOf x) s) (before (d .0) (d .2)) (d .3)))
         ]

@@ -29,7 +29,7 @@ module _ {c : Byte} {t : ℕ} (w : Met c t) (even : (i : ℕ) → Even (c .stage
   entered-keeps i s q =
       entered-cases w (λ e. Has (e .listed) s ⊎ Has (startsOf (e .aside)) s) i (inl q)
       (λ k.
-      enter-keeps (c .agree) (c .pattern) (c .history) (rest c i) (due c i) (rest-ascending w i)
+      enter-keeps (c .tests) (c .history) (rest c i) (due c i) (rest-ascending w i)
       (rest-even w i (even i)) s q)
 
   pub entered-drops : (i s : ℕ) → Has (setAt c i) s → Has (rest c i) s × (Has (entered c i .listed) s → ⊥)
@@ -37,7 +37,7 @@ module _ {c : Byte} {t : ℕ} (w : Met c t) (even : (i : ℕ) → Even (c .stage
   entered-drops i s =
       entered-cases w (λ e. Has (startsOf (e .aside)) s → Has (rest c i) s × (Has (e .listed) s → ⊥)) i (λ q. absurd q)
       (λ k.
-      enter-drops (c .agree) (c .pattern) (c .history) (rest c i) (due c i) (rest-ascending w i)
+      enter-drops (c .tests) (c .history) (rest c i) (due c i) (rest-ascending w i)
       (rest-even w i (even i)) (rest-below w i k) s)
 
   entered-once : (i s : ℕ) → times s (setAt c i) ≤ 1
@@ -45,7 +45,7 @@ module _ {c : Byte} {t : ℕ} (w : Met c t) (even : (i : ℕ) → Even (c .stage
   entered-once i s =
       entered-cases w (λ e. times s (startsOf (e .aside)) ≤ 1) i (times-ascending [] s tt)
       (λ k.
-      enter-once (c .agree) (c .pattern) (c .history) (rest c i) (due c i) (rest-ascending w i)
+      enter-once (c .tests) (c .history) (rest c i) (due c i) (rest-ascending w i)
       (rest-even w i (even i)) s)
 
   -- What some stage sets aside is set aside, and nothing else.
@@ -73,9 +73,9 @@ module _ {c : Byte} {t : ℕ} (w : Met c t) (even : (i : ℕ) → Even (c .stage
   aside-nowhere i j s q r =
       let d : Has (rest c i) s × (Has (entered c i .listed) s → ⊥) = entered-drops i s q in
       let x : Has (c .stages i) s × (suc t < s + size c (suc i)) = rest-has w i s (d .0) in
-      let a : Aged (length (c .pattern)) (suc t) j (entered c j .listed) = next-staged w .aged j in
+      let a : Aged (c .tests .length) (suc t) j (entered c j .listed) = next-staged w .aged j in
       let same : j ≡ i =
-      one-level (length (c .pattern)) j i s (suc t) (a .old s r) (a .young s r)
+      one-level (c .tests .length) j i s (suc t) (a .old s r) (a .young s r)
       (omega (arith, w .ok .aged i .old s (x .0))) (x .1)
       in
       d .1 (subst (λ n. Has (entered c n .listed) s) same r)
@@ -84,7 +84,7 @@ module _ {c : Byte} {t : ℕ} (w : Met c t) (even : (i : ℕ) → Even (c .stage
   one-stage i j s q r =
       let a : Has (c .stages i) s × (suc t < s + size c (suc i)) = rest-has w i s (entered-drops i s q .0) in
       let b : Has (c .stages j) s × (suc t < s + size c (suc j)) = rest-has w j s (entered-drops j s r .0) in
-      one-level (length (c .pattern)) i j s (suc t) (omega (arith, w .ok .aged i .old s (a .0))) (a .1)
+      one-level (c .tests .length) i j s (suc t) (omega (arith, w .ok .aged i .old s (a .0))) (a .1)
       (omega (arith, w .ok .aged j .old s (b .0))) (b .1)
 
   -- No start is set aside twice at one byte.

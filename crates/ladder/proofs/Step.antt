@@ -16,10 +16,10 @@ use Rattle.ladder.proofs.Level.{comparing, compare-below, compare-count
 
 module _ (c : Byte) where
   abbrev visiting : ℕ → Walk → Walk
-  visiting = visit (c .agree) (c .pattern) (c .history)
+  visiting = visit (c .tests) (c .history)
 
   abbrev descending : ℕ → Walk → Walk
-  descending = descend (c .agree) (c .pattern) (c .history)
+  descending = descend (c .tests) (c .history)
 
   -- Before stage i - 1 is visited: the levels above i are done, and the stages below i are still the old ones.
   record Ready (i : ℕ) (w : Walk) : Type 0 where
@@ -127,13 +127,13 @@ module _ (c : Byte) where
         go false = refl
 
     -- The last comparison is with P_0.
-    pub step-closed : 1 ≤ length (c .pattern) → Stepped c (step (c .agree) (c .pattern) (c .history) (c .stages))
+    pub step-closed : 1 ≤ c .tests .length → Stepped c (step (c .tests) (c .history) (c .stages))
     unfolding step start tested ripes asides
     step-closed long =
         let w : Walk = descending (top c) start in
         let r : Ready 0 w = descend-ready (top c) start (omega arith) start-ready in
         let q : Through c 0 (comparing c 0 (due c 0) w) = compare-level c 0 w (r .done) (omega arith) refl in
-        subst (λ n. Stepped c (comparing c 0 (length (c .history) - n) w)) (first-length (length (c .pattern)) long)
+        subst (λ n. Stepped c (comparing c 0 (length (c .history) - n) w)) (first-length (c .tests .length) long)
         (record {
           stage = λ i. q .stage i (omega arith);
           ring = q .ring;

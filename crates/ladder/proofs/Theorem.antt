@@ -8,7 +8,7 @@ use mathlib.Core.Option.{some}
 use native.Mathlib.Omega.{arith}
 use lib.ListN.{length, take}
 use Rattle.ladder.specs.Prefix.{block, levels, prefixLength, prefix}
-use Rattle.ladder.specs.Ladder.{Answer, answerAt}
+use Rattle.ladder.specs.Ladder.{testsOf, Answer, answerAt}
 use Rattle.ladder.specs.Claim.{startsOf, Occurrence, Rings, SetsAside, Collision, Claim}
 use Rattle.ladder.proofs.Levels.{last-length}
 use Rattle.ladder.proofs.Blocks.{prefix-whole}
@@ -24,7 +24,7 @@ module _
     (agree : List ℕ → List ℕ → Bool) (same : (u : List ℕ) → agree u u ≡ true) (p h : List ℕ) (long : 1 ≤ length p)
   where
     abbrev answers : ℕ → Answer
-    answers = answerAt agree p h
+    answers = answerAt (testsOf agree p) h
 
     -- Where a set is set aside, there is a collision: without one all is quiet.
     aside-collides : (n : ℕ) → n ≤ length h → (answers n .aside ≡ [] → ⊥) → Collision agree p (take n h)
@@ -48,11 +48,11 @@ module _
         (comes-up agree same p h long t l (complete agree same p h long t (omega arith)) (levels (length p)) s (omega arith)
         ends stands) [
           | inl q ↦
-              let c : Byte = byteAt agree p h t in
+              let c : Byte = byteAt (testsOf agree p) h t in
               let m : (due c (top c) ≡ s) × (matched c (top c) ≡ true) =
               matches agree same p h long t l (top c) s ends stands q
               in
-              inl (answer-ring agree p h long t l ∙ rw (m .1) (ap some (m .0)))
+              inl (answer-ring (testsOf agree p) h long t l ∙ rw (m .1) (ap some (m .0)))
           | inr d ↦
               inr (d .0, d .1, omega (arith, d .2), has-times (startsOf (answers (d .0) .aside)) s (d .3))
         ]
@@ -67,15 +67,15 @@ pub ladder-claim :
     → ((u : List ℕ) → agree u u ≡ true)
     → (p h : List ℕ)
     → 1 ≤ length p
-    → Claim agree p h (answerAt agree p h)
+    → Claim agree p h (answerAt (testsOf agree p) h)
 ladder-claim agree same p h long =
     record {
       found = found agree same p h long;
-      not-both = not-both agree p h long;
-      rung-once = rung-once agree p h long;
-      aside-once = aside-once agree p h long;
-      aside-in-one-set = one-set agree p h long;
+      not-both = not-both (testsOf agree p) h long;
+      rung-once = rung-once (testsOf agree p) h long;
+      aside-once = aside-once (testsOf agree p) h long;
+      aside-in-one-set = one-set (testsOf agree p) h long;
       false-ring = false-ring agree p h long;
       aside-collides = aside-collides agree same p h long;
-      ceiling = ceiling agree p h long;
+      ceiling = ceiling (testsOf agree p) h long;
     }

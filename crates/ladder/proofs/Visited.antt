@@ -20,7 +20,7 @@ use Rattle.ladder.proofs.Aged.{Staged, first-is, unripe}
 -- A byte that comes after t others, upon stages that are in order.
 pub record Met (c : Byte) (t : ℕ) : Type 0 where
   pub now : length (c .history) ≡ suc t
-  pub ok : Staged (length (c .pattern)) t (c .stages)
+  pub ok : Staged (c .tests .length) t (c .stages)
 
 module _ {c : Byte} {t : ℕ} (w : Met c t) where
   -- Stage i has no ripe start, and is kept.
@@ -150,7 +150,7 @@ module _ {c : Byte} {t : ℕ} (w : Met c t) where
   entered-has i s =
       entered-cases (λ e. Has (e .listed) s → Has (rest c i) s ⊎ ((due c i ≡ s) × Comes i)) i inl
       (λ k q.
-      elim (enter-from (c .agree) (c .pattern) (c .history) (rest c i) (due c i) s q) [
+      elim (enter-from (c .tests) (c .history) (rest c i) (due c i) s q) [
         | inl r ↦ inl r
         | inr r ↦ inr (r, k)
       ])
@@ -163,10 +163,10 @@ module _ {c : Byte} {t : ℕ} (w : Met c t) where
   entered-ascending i =
       entered-cases (λ e. Ascending (e .listed)) i (rest-ascending i)
       (λ k.
-      enter-ascending (c .agree) (c .pattern) (c .history) (rest c i) (due c i) (rest-ascending i) (rest-below i k))
+      enter-ascending (c .tests) (c .history) (rest c i) (due c i) (rest-ascending i) (rest-below i k))
 
   -- The stages are in order after the byte too.
-  pub next-staged : Staged (length (c .pattern)) (suc t) (λ i. entered c i .listed)
+  pub next-staged : Staged (c .tests .length) (suc t) (λ i. entered c i .listed)
   next-staged =
       record {
         aged =
@@ -183,7 +183,7 @@ module _ {c : Byte} {t : ℕ} (w : Met c t) where
                   λ s q.
                   elim (entered-has i s q) [
                     | inl r ↦ rest-has i s r .1
-                    | inr r ↦ omega (arith, length-rises (length (c .pattern)) i (r .1 .below))
+                    | inr r ↦ omega (arith, length-rises (c .tests .length) i (r .1 .below))
                   ];
             };
         empty =
@@ -197,10 +197,10 @@ module _ {c : Byte} {t : ℕ} (w : Met c t) where
       }
 
   -- No stage is ripe again after its visit, with or without a newcomer.
-  pub rest-unripe : (i : ℕ) → ripe (c .agree) (c .pattern) (c .history) (size c (suc i)) (rest c i) ≡ false
-  rest-unripe i = unripe (c .agree) (c .pattern) (c .history) _ (rest c i) (λ s q. omega (arith, rest-has i s q .1))
+  pub rest-unripe : (i : ℕ) → ripe (c .history) (size c (suc i)) (rest c i) ≡ false
+  rest-unripe i = unripe (c .history) _ (rest c i) (λ s q. omega (arith, rest-has i s q .1))
 
-  pub entered-unripe : (i : ℕ) → ripe (c .agree) (c .pattern) (c .history) (size c (suc i)) (entered c i .listed) ≡ false
+  pub entered-unripe : (i : ℕ) → ripe (c .history) (size c (suc i)) (entered c i .listed) ≡ false
   entered-unripe i =
-      unripe (c .agree) (c .pattern) (c .history) _ (entered c i .listed)
+      unripe (c .history) _ (entered c i .listed)
       (λ s q. omega (arith, next-staged .aged i .young s q))

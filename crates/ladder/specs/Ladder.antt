@@ -1,5 +1,5 @@
 -- The ladder of document 01 ("Ladder"), with unlimited lists: demand 2 speaks of this one. A stage is the list of its starts.
--- It is written for any pattern p and any test `agree` that says of two blocks of one length whether their fingerprints are equal.
+-- It is written for any tests: how long the pattern is, and the verdicts of the comparisons. A passage's ladder (`testsOf`) is one instance.
 -- The history h holds the bytes taken so far, the present one included, so t is its length.
 use Prim.Native.Nat.{ℕ, zero, suc, _+_, _-_}
 use mathlib.Core.Bool.{Bool, false, cond, _&&_, _||_}
@@ -8,6 +8,20 @@ use mathlib.Core.Option.{Option, none, some}
 use lib.ListN.{length, take}
 use lib.Dec.{leb, eqb}
 use Rattle.ladder.specs.Prefix.{block, levels, prefixLength, prefix}
+
+-- What a ladder asks.
+pub record Tests : Type 0 where
+  -- "A passage has m bytes": m.
+  pub length : ℕ
+  -- "the last |P_i| bytes are compared by fingerprint with P_i": whether this block of |P_i| bytes matches P_i.
+  pub matches : ℕ → List ℕ → Bool
+  -- "the bytes of that gap have the step print": whether these two blocks of one length have one fingerprint.
+  pub alike : List ℕ → List ℕ → Bool
+
+-- The tests of a passage p, by a test `agree` that says of two blocks of one length whether their fingerprints are equal: a block is
+-- compared with the beginning P_i of the passage, and a gap's bytes with those of the first gap.
+abbrev pub testsOf : (List ℕ → List ℕ → Bool) → List ℕ → Tests
+testsOf agree p = record { length = length p; matches = λ i bytes. agree bytes (prefix p i); alike = agree }
 
 -- A set that was set aside: "(first, step, how many)".
 pub record Progression : Type 0 where
@@ -58,11 +72,31 @@ pub record Walk : Type 0 where
   pub stages : Stages
   pub answer : Answer
 
-module _ (agree : List ℕ → List ℕ → Bool) (p : List ℕ) where
+-- A comparison is counted.
+abbrev pub counted : Walk → Walk
+counted w =
+    record {
+      stages = w .stages;
+      answer = record { ring = w .answer .ring; aside = w .answer .aside; comparisons = suc (w .answer .comparisons) };
+    }
+
+-- The start s is rung.
+abbrev pub ringing : ℕ → Walk → Walk
+ringing s w =
+    record {
+      stages = w .stages;
+      answer = record { ring = some s; aside = w .answer .aside; comparisons = w .answer .comparisons };
+    }
+
+-- "If stage i lists the start t - |P_(i+1)|": there is such a start, and it is listed.
+abbrev pub ripe : List ℕ → ℕ → List ℕ → Bool
+ripe h n starts = leb n (length h) && lists starts (length h - n)
+
+module _ (tests : Tests) where
   -- "The newcomer is added if its gap to the last start equals the step and the bytes of that gap have the step print." The step is the gap
   -- of the listed starts x and y, the first two, and the step print the fingerprint of the bytes from x to y.
   abbrev pub continues : List ℕ → ℕ → ℕ → ℕ → ℕ → Bool
-  continues h x y last new = eqb (new - last) (y - x) && agree (block h last (new - last)) (block h x (y - x))
+  continues h x y last new = eqb (new - last) (y - x) && tests .alike (block h last (new - last)) (block h x (y - x))
 
   -- "Entering: into a stage that lists none or one, the start is added. With two or more .. The newcomer is added if .. Otherwise all
   -- listed starts but the last are set aside, as (first, step, how many); the last and the newcomer remain."
@@ -90,41 +124,19 @@ module _ (agree : List ℕ → List ℕ → Bool) (p : List ℕ) where
             };
       }
 
-  abbrev pub ringing : ℕ → Walk → Walk
-  ringing s w =
-      record {
-        stages = w .stages;
-        answer = record { ring = some s; aside = w .answer .aside; comparisons = w .answer .comparisons };
-      }
-
   -- "On a match it is rung if i = k, else it enters stage i": the start s, whose block just matched P_i.
   unfoldable pub promote : List ℕ → ℕ → ℕ → Walk → Walk
-  promote h i s w = cond (eqb i (levels (length p))) (ringing s w) (entering h i s w)
+  promote h i s w = cond (eqb i (levels (tests .length))) (ringing s w) (entering h i s w)
 
   -- The block behind s is compared by fingerprint with P_i, which counts as one comparison. "Without a match it is dropped."
   unfoldable pub compare : List ℕ → ℕ → ℕ → Walk → Walk
   compare h i s w =
-      let counted : Walk =
-      record {
-        stages = w .stages;
-        answer =
-            record {
-              ring = w .answer .ring;
-              aside = w .answer .aside;
-              comparisons = suc (w .answer .comparisons);
-            };
-      }
-      in
-      cond (agree (block h s (prefixLength (length p) i)) (prefix p i)) (promote h i s counted) counted
-
-  -- "If stage i lists the start t - |P_(i+1)|": there is such a start, and it is listed.
-  abbrev pub ripe : List ℕ → ℕ → List ℕ → Bool
-  ripe h n starts = leb n (length h) && lists starts (length h - n)
+      cond (tests .matches i (block h s (prefixLength (tests .length) i))) (promote h i s (counted w)) (counted w)
 
   -- Stage i is visited: its ripe start "is taken off and the last |P_(i+1)| bytes are compared by fingerprint with P_(i+1)".
   unfoldable pub visit : List ℕ → ℕ → Walk → Walk
   visit h i w =
-      let n : ℕ = prefixLength (length p) (suc i) in
+      let n : ℕ = prefixLength (tests .length) (suc i) in
       let s : ℕ = length h - n in
       cond (ripe h n (w .stages i))
       (compare h (suc i) s (record { stages = put (w .stages) i (without (w .stages i) s); answer = w .answer }))
@@ -139,7 +151,7 @@ module _ (agree : List ℕ → List ℕ → Bool) (p : List ℕ) where
   unfoldable pub step : List ℕ → Stages → Walk
   step h stages =
       compare h 0 (length h - 1)
-      (descend h (levels (length p)) (record { stages = stages; answer = record { ring = none; aside = []; comparisons = 0 } }))
+      (descend h (levels (tests .length)) (record { stages = stages; answer = record { ring = none; aside = []; comparisons = 0 } }))
 
   -- The stages after the first t bytes of a stream.
   unfoldable pub after : List ℕ → ℕ → Stages

@@ -8,10 +8,10 @@ use native.Mathlib.Omega.{arith}
 use lib.ListN.{length, getD, take, List·getD-append}
 use lib.Seq.{getD-at, getD-take, take-suc, take-length, length-take-le}
 use lib.Dec.{eqb}
-use borrow.Author.Tests.{le-leb, lt-ltb, ne-eqb}
+use borrow.Author.Tests.{le-leb, ne-eqb}
 use Rattle.fingerprint.specs.declared.Key.{Key}
-use Rattle.fingerprint.specs.Fingerprint.{p as modulus, keyFits, empty, fp, same, extended}
-use Rattle.fingerprint.proofs.Laws.{fp-below, fp-push}
+use Rattle.fingerprint.specs.Fingerprint.{keyFits, empty, fp, same, extended}
+use Rattle.fingerprint.proofs.Laws.{same-self, below-fits, fp-below, fp-push}
 use Rattle.signature.specs.declared.Signature.{Signature}
 use Rattle.signature.specs.declared.Builder.{Builder}
 use Rattle.signature.specs.Signature.{maxLength, lengthFits, builderFits, signatureOf}
@@ -43,7 +43,7 @@ card-is key p b e = rw (e, all-prints key p)
 -- Such a half-made card is no misfit.
 nothing-taken : (key : Key) (bytes : List ℕ) → cond (eqb (length bytes) 0) (same (fp key bytes) empty) true ≡ true
 unfolding extended
-nothing-taken key [] = refl
+nothing-taken key [] = same-self empty
 nothing-taken key (b ∷ bytes) = rw (ne-eqb (length (b ∷ bytes)) 0 (λ e. omega arith))
 
 module _ (m : ℕ) (key : Key) (length-ok : lengthFits m ≡ true) (key-ok : keyFits key ≡ true) where
@@ -54,7 +54,7 @@ module _ (m : ℕ) (key : Key) (length-ok : lengthFits m ≡ true) (key-ok : key
         length-ok,
         key-ok,
         le-leb (length bytes) m l,
-        lt-ltb (fp key bytes .value) modulus (fp-below key bytes),
+        below-fits _ (fp-below key bytes),
         nothing-taken key bytes,
       )
       (prints-fit m key bytes all)

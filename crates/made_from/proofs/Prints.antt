@@ -9,11 +9,11 @@ use native.Mathlib.Omega.{arith}
 use lib.ListN.{length, take, replicate, length-append}
 use lib.Seq.{take-nil, take-all, take-append-le}
 use lib.Dec.{leb, eqb}
-use borrow.Author.Tests.{le-leb, lt-leb, lt-ltb, eq-eqb, ne-eqb}
+use borrow.Author.Tests.{le-leb, lt-leb, eq-eqb, ne-eqb}
 use Rattle.fingerprint.specs.declared.Key.{Key}
 use Rattle.fingerprint.specs.declared.Fingerprint.{Fingerprint}
-use Rattle.fingerprint.specs.Fingerprint.{p as modulus, empty, fp, printFits, same, extended}
-use Rattle.fingerprint.proofs.Laws.{fp-below}
+use Rattle.fingerprint.specs.Fingerprint.{Below, empty, fp, printFits, same, isBytePrint, extended}
+use Rattle.fingerprint.proofs.Laws.{same-self, below-fits, fp-below, fp-byte, byte-is, empty-is}
 use Rattle.ladder.specs.Prefix.{levels, prefixLength, prefix}
 use Rattle.lists.specs.Lists.{tabulate}
 use Rattle.lists.proofs.Laws.{every-intro, length-tabulate, getD-tabulate, tabulated}
@@ -100,22 +100,22 @@ more-prints m key bytes byte =
 -- an entry is below p, or 0 where it is not reached; and the first one is no more than a byte
 print-fits :
     (t : Bool) (f : Fingerprint)
-    → f .value < modulus
+    → Below f
     → cond t (printFits (cond t f empty)) (same (cond t f empty) empty) ≡ true
-print-fits true f h = lt-ltb (f .value) modulus h
-print-fits false f h = refl
+print-fits true f h = below-fits f h
+print-fits false f h = same-self empty
 
 -- the fingerprint of at most one byte is that byte
-one-byte : (key : Key) (n : ℕ) (bytes : List ℕ) → n ≤ 1 → Bytes bytes → fp key (take n bytes) .value ≤ 255
+one-byte : (key : Key) (n : ℕ) (bytes : List ℕ) → n ≤ 1 → Bytes bytes → isBytePrint (fp key (take n bytes)) ≡ true
 unfolding extended
-one-byte key zero bytes h all = omega arith
-one-byte key (suc zero) [] h all = omega arith
-one-byte key (suc zero) (b ∷ bytes) h all = omega (arith, all 0 (omega arith))
+one-byte key zero bytes h all = empty-is
+one-byte key (suc zero) [] h all = empty-is
+one-byte key (suc zero) (b ∷ bytes) h all = rw (fp-byte key b) (byte-is b (all 0 (omega arith)))
 one-byte key (suc (suc n)) bytes h all = absurd (omega arith)
 
-first-fits : (t : Bool) (f : Fingerprint) → f .value ≤ 255 → leb (cond t f empty .value) 255 ≡ true
-first-fits true f h = le-leb (f .value) 255 h
-first-fits false f h = refl
+first-fits : (t : Bool) (f : Fingerprint) → isBytePrint f ≡ true → isBytePrint (cond t f empty) ≡ true
+first-fits true f h = h
+first-fits false f h = empty-is
 
 -- the table is no misfit
 pub prints-fit :

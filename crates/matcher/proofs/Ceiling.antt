@@ -4,12 +4,12 @@ use Prim.Native.Nat.{ℕ, zero, suc, _+_, _≤_}
 use mathlib.Core.Path.{_≡_}
 use native.Mathlib.Omega.{arith}
 use lib.Dec.{eqb}
-use lib.ListN.{getD}
 use Rattle.ladder.specs.Prefix.{levels}
-use Rattle.matcher.specs.declared.Mark.{Mark}
+use Rattle.stage.specs.declared.Mark.{Mark}
+use Rattle.stage.specs.Stage.{setsAside}
+use Rattle.stage.specs.Stages.{stageAt}
 use Rattle.matcher.specs.declared.Matcher.{Matcher}
-use Rattle.matcher.specs.Matcher.{noStage}
-use Rattle.matcher.specs.Stroke.{noAnswer, setsAside, nextMark, promoted, promotedUnder, matches, tried, ripe, visited, descended, walkedFrom, walked, strokeRefusal, strokeAnswer}
+use Rattle.matcher.specs.Stroke.{noAnswer, nextMark, promoted, promotedUnder, matches, tried, ripe, visited, descended, walkedFrom, walked, strokeRefusal, strokeAnswer}
 use Rattle.matcher.specs.declared.Walk.{Walk}
 use Rattle.matcher.specs.declared.Round.{Round}
 use Rattle.lists.proofs.Cases.{by-test}
@@ -19,17 +19,17 @@ module _ (c : Round) where
   unfolding promotedUnder
   promoted-count i start w =
       by-test (eqb i (levels (c .signature .length))) (λ e. rw (e, promoted)) (λ e. rw (e, promoted)
-      (by-test (setsAside (c .signature .key) (getD (w .stages) i noStage) start) (λ f. rw f) (λ f. rw f)))
+      (by-test (setsAside (c .signature .key) (stageAt (w .stages) i) start) (λ f. rw f) (λ f. rw f)))
 
   tried-count : (i : ℕ) (start : Mark) (w : Walk) → tried c i start w .answer .comparisons ≡ suc (w .answer .comparisons)
   unfolding tried
   tried-count i start w =
       by-test (matches c i start) (λ e. rw (e, tried) (promoted-count i start _)) (λ e. rw (e, tried))
 
-  visited-count : (i : ℕ) (w : Walk) → visited c i w .answer .comparisons ≤ suc (w .answer .comparisons)
+  pub visited-count : (i : ℕ) (w : Walk) → visited c i w .answer .comparisons ≤ suc (w .answer .comparisons)
   unfolding visited
   visited-count i w =
-      by-test (ripe c i (getD (w .stages) i noStage)) (λ e. rw (e, visited, tried-count) (omega arith))
+      by-test (ripe c i (stageAt (w .stages) i)) (λ e. rw (e, visited, tried-count) (omega arith))
       (λ e. rw (e, visited) (omega arith))
 
   descended-count : (i : ℕ) (w : Walk) → descended c i w .answer .comparisons ≤ i + w .answer .comparisons

@@ -1,25 +1,18 @@
 -- The fresh watch of a card that is no misfit is none.
 -- Assumes nothing.
-use Prim.Native.Nat.{ℕ}
 use mathlib.Core.Path.{_≡_, refl}
 use mathlib.Core.Bool.{true}
-use lib.ListN.{replicate, getD-replicate}
-use Rattle.lists.proofs.Laws.{every-intro}
+use native.Mathlib.Omega.{arith}
 use Rattle.signature.specs.declared.Signature.{Signature}
 use Rattle.signature.specs.Signature.{signatureFits}
-use Rattle.matcher.specs.Matcher.{stageCount, noStage, noneFits, stageFits, fitsAt, stagesFit, matcherFits, blank, fresh}
-
-empty-stage : (m i t : ℕ) → stageFits m i t noStage ≡ true
-unfolding stageFits noneFits
-empty-stage m i t = refl
-
-blank-fits : (s : Signature) → signatureFits s ≡ true → matcherFits (blank s) ≡ true
-unfolding matcherFits
-blank-fits s e =
-    let stages : stagesFit (s .length) 0 (replicate stageCount noStage) ≡ true =
-    every-intro _ stageCount (λ i l. rw (getD-replicate stageCount i noStage noStage l) (empty-stage (s .length) i 0)) in
-    rw (e, stages)
+use Rattle.stage.proofs.Fit.{idle}
+use Rattle.stage.proofs.Stages.{no-stage-at}
+use Rattle.matcher.specs.Matcher.{matcherFits, blank, fresh}
+use Rattle.matcher.proofs.Sound.{sound-fits}
 
 pub fresh-fits : (s : Signature) → signatureFits s ≡ true → matcherFits (fresh s) ≡ true
 unfolding fresh
-fresh-fits s e = rw e (blank-fits s e)
+fresh-fits s e =
+    rw e
+    (sound-fits (blank s)
+    (record { card = e; print = omega arith; starts = λ z. refl; stage = λ i l. idle (no-stage-at i) }))

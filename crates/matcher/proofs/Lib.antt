@@ -1,10 +1,9 @@
-pub mod Fit
-pub mod Rounds
-pub mod Ceiling
-pub mod Keeps
 pub mod Sound
-pub mod StrokeFits
 pub mod FreshFits
+pub mod StrokeFits
+pub mod Visits
+pub mod Ceiling
+pub mod Rounds
+pub mod Doubling
 pub mod Quiet
 pub mod Running
-pub mod Doubling

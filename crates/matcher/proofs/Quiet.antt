@@ -17,18 +17,22 @@ use Rattle.fingerprint.specs.declared.Fingerprint.{Fingerprint}
 use Rattle.fingerprint.specs.Fingerprint.{p, same, empty, pushed, rest}
 use Rattle.fingerprint.proofs.Laws.{by-value}
 use Rattle.ladder.specs.Prefix.{levels, prefixLength}
-use Rattle.matcher.specs.declared.Mark.{Mark}
-use Rattle.matcher.specs.declared.Stage.{Stage}
+use Rattle.ladder.proofs.Levels.{length-positive}
+use Rattle.lists.proofs.Cases.{by-test}
+use Rattle.stage.specs.declared.Mark.{Mark}
+use Rattle.stage.specs.declared.Stage.{Stage}
+use Rattle.stage.specs.Stage.{maxTaken, quietUntil}
+use Rattle.stage.proofs.Moves.{quiet-most, quiet-before}
+use Rattle.stage.specs.Stages.{Stages, stageAt}
 use Rattle.matcher.specs.declared.Matcher.{Matcher}
 use Rattle.matcher.specs.declared.Walk.{Walk}
 use Rattle.matcher.specs.declared.Round.{Round}
-use Rattle.matcher.specs.Matcher.{maxTaken, noStage, matcherFits}
+use Rattle.matcher.specs.Matcher.{matcherFits}
 use Rattle.matcher.specs.Stroke.{noAnswer, compared, nextMark, matches, tried, ripe, descended, walkedFrom, walked, strokeRefusal, strokeAnswer, afterStroke}
 use Rattle.matcher.specs.Scan.{Scanned, onward, scanned}
 use Rattle.matcher.specs.Skip.{skipped, Unripe}
-use Rattle.lists.proofs.Cases.{by-test}
-use Rattle.matcher.proofs.Rounds.{visit-unripe}
 use Rattle.matcher.proofs.StrokeFits.{stroke-fits}
+use Rattle.matcher.proofs.Visits.{visit-unripe}
 
 -- the fingerprint of a block of one byte
 cut-back : (f r b : ℕ) → ((f * r + b) % p + (p - f * (1 * r) % p)) % p ≡ (0 * r + b) % p
@@ -37,7 +41,7 @@ cut-back f r b = omega arith
 one-byte : (key : Key) (f : Fingerprint) (b n : ℕ) → n ≡ 1 → rest key (pushed key f b) f n ≡ pushed key empty b
 one-byte key f b n e = rw e (by-value _ _ (rw (pow-suc, pow-zero) (cut-back (f .value) (key .r) b)))
 
-descended-idle : (c : Round) (i : ℕ) (w : Walk) → ((j : ℕ) → j < i → ripe c j (getD (w .stages) j noStage) ≡ false) → descended c i w ≡ w
+descended-idle : (c : Round) (i : ℕ) (w : Walk) → ((j : ℕ) → j < i → ripe c j (stageAt (w .stages) j) ≡ false) → descended c i w ≡ w
 unfolding descended
 descended-idle c zero w f = refl
 descended-idle c (suc i) w f =
@@ -122,7 +126,7 @@ module _ (w : Matcher) (b : ℕ) (fits : matcherFits w ≡ true) (room : w .now 
   walked-quietly =
       rw (
         descended-idle (record { signature = w .signature; now = next }) (levels (w .signature .length)) (record { stages = w .stages; answer = noAnswer })
-            (λ j l. not-ripe (record { signature = w .signature; now = next }) j (getD (w .stages) j noStage) (unripe j l)),
+            (λ j l. not-ripe (record { signature = w .signature; now = next }) j (stageAt (w .stages) j) (unripe j l)),
         unlike,
       )
 
@@ -152,18 +156,22 @@ module _ (w : Matcher) (b : ℕ) (fits : matcherFits w ≡ true) (room : w .now 
         same = quiet-scanned bytes ∙ ap (onward 1) (q .same) ∙ scanned-by refl refl (omega arith) (omega arith) refl;
       }
 
-pub sooner : (k m : ℕ) (stages : List Stage) {t u : ℕ} → t ≤ u → Unripe k m u stages → Unripe k m t stages
+pub sooner : (k m : ℕ) (stages : Stages) {t u : ℕ} → t ≤ u → Unripe k m u stages → Unripe k m t stages
 sooner k m stages l f i b h = omega (arith, f i b h)
 
 -- one stage more
 pub unripe-more :
-    (k m : ℕ) (stages : List Stage) {t u : ℕ}
-    → t ≤ u
+    (k m : ℕ) (stages : Stages) {t u : ℕ}
+    → 1 ≤ m
+    → t ≡ quietUntil (prefixLength m (suc k)) u (stageAt stages k)
     → Unripe k m u stages
-    → ((getD stages k noStage .held ≡ 0 → ⊥) → t < getD stages k noStage .first .at + prefixLength m (suc k))
     → Unripe (k + 1) m t stages
-unripe-more k m stages l f g i b h =
-    elim (ℕ-discrete i k) [ yes e ↦ rw e (g (rw e at h)) | no e ↦ omega (arith, f i (omega arith) h) ]
+unripe-more k m stages {t} {u} low e f i b h =
+    let length : ℕ = prefixLength m (suc k) in
+    elim (ℕ-discrete i k) [
+      | yes d ↦ rw (e, d) (quiet-before length u (stageAt stages k) (length-positive m (suc k) low) (rw d at h))
+      | no d ↦ omega (arith, f i (omega arith) h, quiet-most length u (stageAt stages k))
+    ]
 
 pub no-skips : (w : Matcher) (n : ℕ) (bytes : List ℕ) → matcherFits w ≡ true → Skips w n bytes (w .now)
 no-skips w n bytes fits =

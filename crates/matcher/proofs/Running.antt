@@ -15,15 +15,16 @@ use Rattle.ladder.proofs.Levels.{levels-bound}
 use Rattle.refusal.specs.declared.Refusal.the-variants.{Spent, Misfit}
 use Rattle.refusal.specs.Number.{number}
 use Rattle.refusal.specs.declared.Verdict.the-variants.{Accepted, Refused}
-use Rattle.matcher.specs.declared.Mark.{Mark}
+use Rattle.stage.specs.declared.Mark.{Mark}
+use Rattle.stage.specs.Stage.{maxTaken}
 use Rattle.matcher.specs.declared.Matcher.{Matcher}
 use Rattle.matcher.specs.declared.Answer.{Answer}
 use Rattle.matcher.specs.declared.Scan.{Scan}
-use Rattle.matcher.specs.Matcher.{maxTaken, matcherFits}
+use Rattle.matcher.specs.Matcher.{matcherFits}
 use Rattle.matcher.specs.Stroke.{noAnswer, nextMark, walked, strokeRefusal, strokeAnswer, afterStroke}
 use Rattle.matcher.specs.Scan.{Scanned, silent, scanned, scanOf}
 use Rattle.matcher.specs.Skip.{skipped, Unripe, silentEnd, Ends}
-use Rattle.matcher.proofs.Sound.{sound, after-taken}
+use Rattle.matcher.proofs.Sound.{sound, card-of, after-taken}
 use Rattle.matcher.proofs.StrokeFits.{stroke-fits}
 use Rattle.matcher.proofs.Ceiling.{ceiling}
 use Rattle.matcher.proofs.Quiet.{moved, first, ahead, scanned-by, Skips, no-skips, skips, sooner, skipped-none}
@@ -118,7 +119,7 @@ module _ (self : Matcher) (input : List ℕ) (from : ℕ) where
         pub run-count : walked w byte .answer .comparisons ≤ 21
         run-count =
             let count : strokeAnswer w byte .comparisons ≤ suc (levels (w .signature .length)) = ceiling w byte in
-            omega (arith, rw answered at count, levels-bound (w .signature .length) (sound w (q .fits) .short))
+            omega (arith, rw answered at count, levels-bound (w .signature .length) (card-of (sound w (q .fits)) .short))
 
         pub run-step :
             silent (walked w byte .answer) ≡ true

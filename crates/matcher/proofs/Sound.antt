@@ -1,55 +1,61 @@
 -- What it says of a watch that it is no misfit, and what becomes of one whose byte is taken.
 -- Assumes nothing.
-use Prim.Native.Nat.{ℕ, _≤_, _<_}
+use Prim.Native.Nat.{ℕ, _<_}
 use mathlib.Core.Path.{_≡_, ap}
 use mathlib.Core.Bool.{true, cond}
 use mathlib.Core.List.{[], _∷_}
 use native.Mathlib.Omega.{arith}
-use lib.Dec.{leb, eqb}
-use lib.ListN.{getD}
-use borrow.Author.Tests.{eqb-true, ltb-true, leb-true, lt-ltb}
+use lib.Dec.{eqb}
+use borrow.Author.Tests.{eqb-true, ltb-true, lt-ltb}
 use Rattle.fingerprint.specs.declared.Fingerprint.{Fingerprint}
 use Rattle.fingerprint.specs.Fingerprint.{p, printFits, same, empty}
 use Rattle.fingerprint.proofs.Laws.{by-value}
-use Rattle.lists.specs.Lists.{every}
-use Rattle.lists.proofs.Laws.{and-left, every-at, every-intro}
-use Rattle.signature.specs.Signature.{maxLength, signatureFits}
-use Rattle.matcher.specs.declared.Matcher.{Matcher}
-use Rattle.matcher.specs.Matcher.{stageCount, noStage, stageFits, matcherFits}
-use Rattle.matcher.specs.Stroke.{nextMark, walked, strokeRefusal, afterStroke}
+use Rattle.lists.proofs.Laws.{every-at, every-intro}
 use Rattle.lists.proofs.Cases.{by-test, each}
-use Rattle.matcher.proofs.Fit.{Fit, fit-of, fits-of}
+use Rattle.signature.specs.Signature.{signatureFits}
+use Rattle.signature.proofs.Card.{SoundCard, sound-card}
+use Rattle.stage.specs.Stages.{stageCount, stageAt, stagesFit}
+use Rattle.stage.proofs.Fit.{Fit, fit-of, fits-of}
+use Rattle.matcher.specs.declared.Matcher.{Matcher}
+use Rattle.matcher.specs.Matcher.{matcherFits}
+use Rattle.matcher.specs.Stroke.{nextMark, walked, strokeRefusal, afterStroke}
 
 -- What a watch that is no misfit says of itself.
 pub record Sound (w : Matcher) : Type 0 where
   pub card : signatureFits (w .signature) ≡ true
-  pub long : 1 ≤ w .signature .length
-  pub short : w .signature .length ≤ maxLength
   pub print : w .now .print .value < p
   pub starts : w .now .at ≡ 0 → w .now .print ≡ empty
-  pub stage : (i : ℕ) → i < stageCount → Fit (w .signature .length) i (w .now .at) (w .now .at) (getD (w .stages) i noStage)
+  pub stage : (i : ℕ) → i < stageCount → Fit (w .signature .length) i (w .now .at) (w .now .at) (stageAt (w .stages) i)
 
 pub sound : (w : Matcher) → matcherFits w ≡ true → Sound w
-unfolding matcherFits signatureFits
+unfolding matcherFits
 sound w e =
     let q =
-    each (signatureFits (w .signature)) (printFits (w .now .print) ∷ cond (eqb (w .now .at) 0) (same (w .now .print) empty) true
-    ∷ every (λ i. stageFits (w .signature .length) i (w .now .at) (getD (w .stages) i noStage)) stageCount ∷ []) e
+    each (signatureFits (w .signature))
+    (printFits (w .now .print)
+    ∷ cond (eqb (w .now .at) 0) (same (w .now .print) empty) true
+    ∷ stagesFit (w .signature .length) (w .now .at) (w .stages)
+    ∷ [])
+    e
     in
-    let r = each (leb 1 (w .signature .length)) (leb (w .signature .length) maxLength ∷ []) (and-left _ _ (and-left _ _ (q .0))) in
     record {
       card = q .0;
-      long = leb-true _ _ (r .0);
-      short = leb-true _ _ (r .1 .0);
       print = ltb-true _ _ (q .1 .0);
       starts = λ z. by-value _ _ (eqb-true _ _ (rw z at (q .1 .1 .0)));
       stage = λ i l. fit-of _ i _ _ (every-at _ stageCount (q .1 .1 .1 .0) i l);
     }
 
+-- What its card says of itself.
+pub card-of : {w : Matcher} → Sound w → SoundCard (w .signature)
+card-of q = sound-card _ (q .card)
+
+pub stages-fit : (w : Matcher) → Sound w → stagesFit (w .signature .length) (w .now .at) (w .stages) ≡ true
+stages-fit w q = every-intro _ stageCount (λ i l. fits-of _ i _ _ (q .stage i l))
+
 pub sound-fits : (w : Matcher) → Sound w → matcherFits w ≡ true
 unfolding matcherFits
 sound-fits w q =
-    rw (q .card, lt-ltb (w .now .print .value) p (q .print), every-intro _ stageCount (λ i l. fits-of _ i _ _ (q .stage i l)))
+    rw (q .card, lt-ltb (w .now .print .value) p (q .print), stages-fit w q)
     (by-test (eqb (w .now .at) 0) (λ e. rw (e, ap (λ (f : Fingerprint). f .value) (q .starts (eqb-true _ _ e)))) (λ e. rw e))
 
 pub taken-fits : (w : Matcher) → strokeRefusal w ≡ 0 → matcherFits w ≡ true

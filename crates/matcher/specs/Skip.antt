@@ -11,11 +11,10 @@ use Rattle.fingerprint.specs.Fingerprint.{p, same, empty, pushed}
 use Rattle.ladder.specs.Prefix.{levels, prefixLength}
 use Rattle.refusal.specs.declared.Verdict.{Verdict}
 use Rattle.refusal.specs.Number.{number}
-use Rattle.matcher.specs.declared.Mark.{Mark}
-use Rattle.matcher.specs.declared.Stage.{Stage}
+use Rattle.stage.specs.declared.Mark.{Mark}
+use Rattle.stage.specs.Stages.{Stages, stageAt}
 use Rattle.matcher.specs.declared.Matcher.{Matcher}
 use Rattle.matcher.specs.declared.Scan.{Scan}
-use Rattle.matcher.specs.Matcher.{noStage}
 use Rattle.matcher.specs.Stroke.{nextMark, noAnswer}
 use Rattle.matcher.specs.Scan.{Scanned}
 
@@ -31,9 +30,9 @@ skipped key first (suc n) now (byte ∷ bytes) =
     cond (same (pushed key empty byte) first) now (skipped key first n (nextMark key now byte) bytes)
 
 -- No start of the stages below k becomes ripe up to t.
-abbrev pub Unripe : ℕ → ℕ → ℕ → List Stage → Type 0
+abbrev pub Unripe : ℕ → ℕ → ℕ → Stages → Type 0
 Unripe k m t stages =
-    (i : ℕ) → i < k → (getD stages i noStage .held ≡ 0 → ⊥) → t < getD stages i noStage .first .at + prefixLength m (suc i)
+    (i : ℕ) → i < k → (stageAt stages i .held ≡ 0 → ⊥) → t < stageAt stages i .first .at + prefixLength m (suc i)
 
 -- A run whose last byte had nothing to report.
 abbrev pub silentEnd : Matcher → ℕ → ℕ → Verdict → Scan

@@ -1,5 +1,5 @@
 -- Blocks byte by byte, and their fingerprints. Assumes nothing.
-use Prim.Native.Nat.{ℕ, _+_, _^_, _%_, _<_, _≤_}
+use Prim.Native.Nat.{ℕ, _+_, _<_, _≤_}
 use mathlib.Core.Path.{_≡_, sym, ap, _∙_}
 use mathlib.Core.List.{List}
 use native.Mathlib.Numerals.{add-one}
@@ -7,7 +7,7 @@ use native.Mathlib.Omega.{arith}
 use lib.ListN.{length, take, drop, getD}
 use lib.Seq.{getD-take, getD-drop, ext-getD, take-suc, take-add}
 use Rattle.fingerprint.specs.declared.Key.{Key}
-use Rattle.fingerprint.specs.Fingerprint.{p, fp, pushed, rest, restBy}
+use Rattle.fingerprint.specs.Fingerprint.{fp, pushed, rest, restBy, power}
 use Rattle.fingerprint.proofs.Laws.{fp-push, fp-cut, rest-by}
 use Rattle.ladder.specs.Prefix.{block}
 use Rattle.ladder.specs.Claim.{Occurrence}
@@ -43,12 +43,11 @@ fp-front key l i lt = rw (add-one, take-suc l i 0) (fp-push key (take i l) (getD
 
 -- The fingerprint of a block from those of the bytes up to its end and up to its start.
 pub fp-block :
-    (key : Key) (h : List ℕ) (s n shift : ℕ)
+    (key : Key) (h : List ℕ) (s n : ℕ)
     → s + n ≤ length h
-    → shift ≡ key .r ^ n % p
-    → restBy shift (fp key (take (s + n) h)) (fp key (take s h)) ≡ fp key (block h s n)
-fp-block key h s n shift l e =
-    rest-by key (fp key (take (s + n) h)) (fp key (take s h)) n shift e
+    → restBy (power key n) (fp key (take (s + n) h)) (fp key (take s h)) ≡ fp key (block h s n)
+fp-block key h s n l =
+    rest-by key (fp key (take (s + n) h)) (fp key (take s h)) n
     ∙ ap (λ (k : ℕ). rest key (fp key (take (s + n) h)) (fp key (take s h)) k) (sym (block-length h s n l))
     ∙ ap (λ (x : List ℕ). rest key (fp key x) (fp key (take s h)) (length (block h s n))) (take-add s n h)
     ∙ fp-cut key (take s h) (block h s n)

@@ -11,18 +11,19 @@ use lib.ListN.{length, take}
 use lib.Pow.{pow-mono}
 use lib.Seq.{length-take-le}
 use borrow.Author.Count.{below-more}
-use borrow.Author.Tests.{eq-eqb, eqb-true}
+use Rattle.fingerprint.specs.Fingerprint.{agreeUnder, numberedKey, printNumber}
+use Rattle.fingerprint.proofs.Laws.{same-eq, number-same}
 use Rattle.ladder.specs.Prefix.{prefix, prefixLength, levels}
 use Rattle.ladder.specs.Claim.{Collision}
 use Rattle.ladder.proofs.Levels.{levels-reach, least-levels, early-length, length-within}
 use Rattle.ladder.proofs.Blocks.{prefix-whole}
-use Rattle.naive_search.specs.Search.{Decides, HasTwin, agreeing}
+use Rattle.naive_search.specs.Search.{Decides, HasTwin}
 
 prefix-length : (p : List ℕ) (i : ℕ) → length (prefix p i) ≡ prefixLength (length p) i
 prefix-length p i = length-take-le (prefixLength (length p) i) p (length-within (length p) i)
 
 collision-of :
-    (key : ℕ) (p h : List ℕ) (i : ℕ) → i ≤ levels (length p) → HasTwin key (prefix p i) h → Collision (agreeing key) p h
+    (key : ℕ) (p h : List ℕ) (i : ℕ) → i ≤ levels (length p) → HasTwin key (prefix p i) h → Collision (agreeUnder (numberedKey key)) p h
 collision-of key p h i l (s, t) =
     record {
       start = s;
@@ -30,16 +31,16 @@ collision-of key p h i l (s, t) =
       tested = l;
       inside = rw (prefix-length p i) at (t .inside);
       differs = rw (prefix-length p i) at (t .differs);
-      agrees = eq-eqb _ _ (rw (prefix-length p i) at (t .agrees));
+      agrees = number-same _ _ (rw (prefix-length p i) at (t .agrees));
     }
 
-twin-of : (key : ℕ) (p h : List ℕ) (x : Collision (agreeing key) p h) → HasTwin key (prefix p (x .index)) h
+twin-of : (key : ℕ) (p h : List ℕ) (x : Collision (agreeUnder (numberedKey key)) p h) → HasTwin key (prefix p (x .index)) h
 twin-of key p h x = (
   x .start,
   record {
     inside = rw (prefix-length p (x .index)) (x .inside);
     differs = rw (prefix-length p (x .index)) (x .differs);
-    agrees = rw (prefix-length p (x .index)) (eqb-true _ _ (x .agrees));
+    agrees = rw (prefix-length p (x .index)) (ap printNumber (same-eq _ _ (x .agrees)));
   },
 )
 
@@ -56,7 +57,7 @@ below m i l =
 
 -- A twin of such a beginning is a collision.
 early-collision :
-    (key : ℕ) (p h : List ℕ) (i : ℕ) → 2 ^ i < length p → HasTwin key (take (2 ^ i) p) h → Collision (agreeing key) p h
+    (key : ℕ) (p h : List ℕ) (i : ℕ) → 2 ^ i < length p → HasTwin key (take (2 ^ i) p) h → Collision (agreeUnder (numberedKey key)) p h
 early-collision key p h i l t =
     let lt : i < levels (length p) = below (length p) i l in
     collision-of key p h i (omega arith) (rw (early p i lt) t)
@@ -67,7 +68,7 @@ decides-whole :
     → length p ≤ 2 ^ i
     → ((j : ℕ) → j < i → (2 ^ j < length p) × (HasTwin key (take (2 ^ j) p) h → ⊥))
     → Decides r (HasTwin key p h)
-    → Decides r (Collision (agreeing key) p h)
+    → Decides r (Collision (agreeUnder (numberedKey key)) p h)
 decides-whole key p h i r far low d =
     let all : levels (length p) ≡ i = least-levels (record { reaches = far; below = λ j l. low j l .0 }) in
     record {
@@ -114,7 +115,7 @@ pub tried-collision :
     → n < length p
     → Tried key p h n
     → HasTwin key (take n p) h
-    → Collision (agreeing key) p h
+    → Collision (agreeUnder (numberedKey key)) p h
 tried-collision key p h n l x t = early-collision key p h (x .index) (omega (arith, x .power)) (rw (x .power) at t)
 
 pub tried-whole :
@@ -122,5 +123,5 @@ pub tried-whole :
     → length p ≤ n
     → Tried key p h n
     → Decides r (HasTwin key p h)
-    → Decides r (Collision (agreeing key) p h)
+    → Decides r (Collision (agreeUnder (numberedKey key)) p h)
 tried-whole key p h n r far x d = decides-whole key p h (x .index) r (omega (arith, x .power)) (x .none) d

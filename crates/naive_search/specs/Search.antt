@@ -5,9 +5,7 @@ use mathlib.Core.Path.{_≡_}
 use mathlib.Core.Bool.{Bool, true}
 use mathlib.Core.List.{List}
 use lib.ListN.{length}
-use Rattle.fingerprint.specs.declared.Key.{Key}
-use Rattle.fingerprint.specs.declared.Fingerprint.{Fingerprint}
-use Rattle.fingerprint.specs.Fingerprint.{fp, same}
+use Rattle.fingerprint.specs.Fingerprint.{fp, numberedKey, printNumber}
 use Rattle.ladder.specs.Prefix.{block}
 
 -- The answer b is true where P holds, and nowhere else.
@@ -15,26 +13,15 @@ pub record Decides (b : Bool) (P : Type 0) : Type 0 where
   pub only : b ≡ true → P
   pub wherever : P → b ≡ true
 
--- A number as a key, whatever its size, and as a fingerprint.
-abbrev pub keyed : ℕ → Key
-keyed r = record { r = r }
-
-abbrev pub valued : ℕ → Fingerprint
-valued n = record { value = n }
-
--- Whether two blocks have one fingerprint under a key (`agreeUnder` of crate `refinement`).
-abbrev pub agreeing : ℕ → List ℕ → List ℕ → Bool
-agreeing key u v = same (fp (keyed key) u) (fp (keyed key) v)
-
 -- The fingerprint of the n bytes of h behind start s.
-abbrev pub printAt : ℕ → List ℕ → ℕ → ℕ → ℕ
-printAt key h s n = fp (keyed key) (block h s n) .value
+abbrev pub blockPrint : ℕ → List ℕ → ℕ → ℕ → ℕ
+blockPrint key h s n = printNumber (fp (numberedKey key) (block h s n))
 
 -- A twin of the block b in h: as long a block behind start s that has its fingerprint and differs from it.
 pub record Twin (key : ℕ) (b h : List ℕ) (s : ℕ) : Type 0 where
   pub inside : s + length b ≤ length h
   pub differs : block h s (length b) ≡ b → ⊥
-  pub agrees : printAt key h s (length b) ≡ fp (keyed key) b .value
+  pub agrees : blockPrint key h s (length b) ≡ printNumber (fp (numberedKey key) b)
 
 abbrev pub HasTwin : ℕ → List ℕ → List ℕ → Type 0
 HasTwin key b h = (s : ℕ) × Twin key b h s

@@ -15,10 +15,12 @@ use Rattle.record.specs.Owned.{keyNumbers, printNumbers, keyOf, printOf}
 use Rattle.record.proofs.Own.{same-key-self, same-self}
 use Rattle.ladder.specs.Prefix.{levels}
 use Rattle.lists.proofs.Laws.{tabulated}
-use Rattle.matcher.specs.declared.Stage.{Stage}
+use Rattle.stage.specs.declared.Stage.{Stage}
 use Rattle.matcher.specs.declared.Matcher.{Matcher}
-use Rattle.matcher.specs.Matcher.{maxTaken, stageCount, noStage, matcherFits, noMatcher}
-use Rattle.matcher.proofs.Fit.{fit-past}
+use Rattle.stage.specs.Stage.{maxTaken, noStage}
+use Rattle.stage.specs.Stages.{stageCount}
+use Rattle.matcher.specs.Matcher.{matcherFits, noMatcher}
+use Rattle.stage.proofs.Fit.{fit-past}
 use Rattle.matcher.proofs.Sound.{sound}
 use Rattle.record.specs.Layout.{
   recordFields,

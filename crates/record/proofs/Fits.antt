@@ -22,12 +22,13 @@ use Rattle.lists.proofs.Laws.{and-left, and-right}
 use Rattle.signature.specs.declared.Signature.{Signature}
 use Rattle.signature.specs.Signature.{lengthFits, signatureFits}
 use Rattle.signature.proofs.Card.{sound-card}
-use Rattle.matcher.specs.declared.Mark.{Mark}
-use Rattle.matcher.specs.declared.Stage.{Stage}
+use Rattle.stage.specs.declared.Mark.{Mark}
+use Rattle.stage.specs.declared.Stage.{Stage}
 use Rattle.matcher.specs.declared.Matcher.{Matcher}
-use Rattle.matcher.specs.Matcher.{maxTaken, origin, noGap, noStage, matcherFits}
-use Rattle.matcher.specs.Stroke.{alone}
-use Rattle.matcher.proofs.Fit.{Fit, idle, single, several}
+use Rattle.stage.specs.Stage.{maxTaken, origin, noGap, noStage}
+use Rattle.matcher.specs.Matcher.{matcherFits}
+use Rattle.stage.specs.Stage.{alone}
+use Rattle.stage.proofs.Fit.{Fit, idle, single, several}
 use Rattle.matcher.proofs.Sound.{sound}
 use Rattle.record.specs.Layout.{
   recordFields,

@@ -12,7 +12,8 @@ use Rattle.fingerprint.specs.Fingerprint.{empty, same}
 use Rattle.record.specs.Owned.{keyNumbers, printNumbers, keyOf, printOf, noKey, sameKey}
 use Rattle.signature.specs.declared.Signature.{Signature}
 use Rattle.signature.specs.Signature.{noSignature}
-use Rattle.matcher.specs.Matcher.{origin, noGap, noStage, noMatcher}
+use Rattle.stage.specs.Stage.{origin, noGap, noStage}
+use Rattle.matcher.specs.Matcher.{noMatcher}
 use Rattle.record.specs.Layout.{
   keyFields,
   printFields,

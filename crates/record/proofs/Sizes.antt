@@ -17,7 +17,8 @@ use Rattle.signature.specs.declared.Signature.{Signature}
 use Rattle.signature.specs.Signature.{signatureFits, noSignature}
 use Rattle.signature.proofs.Card.{sound-card}
 use Rattle.matcher.specs.declared.Matcher.{Matcher}
-use Rattle.matcher.specs.Matcher.{noStage, origin, matcherFits, noMatcher}
+use Rattle.stage.specs.Stage.{noStage, origin}
+use Rattle.matcher.specs.Matcher.{matcherFits, noMatcher}
 use Rattle.matcher.proofs.Sound.{sound}
 use Rattle.record.specs.Layout.{
   kindWidth,

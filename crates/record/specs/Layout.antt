@@ -13,11 +13,13 @@ use Rattle.ladder.specs.Prefix.{levels}
 use Rattle.lists.specs.Lists.{tabulate}
 use Rattle.signature.specs.declared.Signature.{Signature}
 use Rattle.signature.specs.Signature.{places, noSignature}
-use Rattle.matcher.specs.declared.Mark.{Mark}
-use Rattle.matcher.specs.declared.Gap.{Gap}
-use Rattle.matcher.specs.declared.Stage.{Stage}
+use Rattle.stage.specs.declared.Mark.{Mark}
+use Rattle.stage.specs.declared.Gap.{Gap}
+use Rattle.stage.specs.declared.Stage.{Stage}
 use Rattle.matcher.specs.declared.Matcher.{Matcher}
-use Rattle.matcher.specs.Matcher.{stageCount, origin, noGap, noStage, noMatcher}
+use Rattle.stage.specs.Stage.{origin, noGap, noStage}
+use Rattle.stage.specs.Stages.{stageCount}
+use Rattle.matcher.specs.Matcher.{noMatcher}
 
 -- "Length (4 bytes) of what follows it, kind (2 bytes), then fields of 4 bytes."
 abbrev pub lengthWidth : ℕ

@@ -5,7 +5,9 @@ ghost use lib.ListN.{length};
 ghost use Rattle.ladder.specs.Prefix.{levels};
 ghost use Rattle.lists.specs.Lists.{tabulate};
 ghost use Rattle.refusal.specs.Number.{refusalNumber, number};
-ghost use Rattle.matcher.specs.Matcher.{stageCount, origin, noGap, noStage, noMatcher};
+ghost use Rattle.stage.specs.Stage.{origin, noGap, noStage};
+ghost use Rattle.stage.specs.Stages.{stageCount};
+ghost use Rattle.matcher.specs.Matcher.{noMatcher};
 ghost use Rattle.fields.specs.Fields.{widths, valuesAt, gathered, pasted, stamped};
 ghost use Rattle.record.specs.Layout.{
   lengthWidth,
@@ -50,10 +52,10 @@ use crate::part::put_print;
 use crate::part::put_word;
 use crate::part::same_key;
 use crate::part::word_at;
-use matcher::Gap;
-use matcher::Mark;
+use stage::Gap;
+use stage::Mark;
 use matcher::Matcher;
-use matcher::Stage;
+use stage::Stage;
 use refusal::Refusal;
 use refusal::Verdict;
 use signature::Signature;

@@ -9,34 +9,28 @@ use mathlib.Core.Option.{some}
 use native.Mathlib.Decide.{ℕ-discrete}
 use native.Mathlib.Omega.{arith}
 use lib.Dec.{eqb}
-use lib.ListN.{length, take, getD, set, length-set}
-use lib.Seq.{getD-set-same, getD-set-other, take-suc-set}
+use lib.ListN.{length, take, getD, length-set}
+use lib.Seq.{take-suc-set}
 use borrow.Author.Tests.{eqb-false, eq-eqb, ne-eqb}
-use Rattle.fingerprint.specs.declared.Key.{Key}
-use Rattle.fingerprint.specs.declared.Fingerprint.{Fingerprint}
-use Rattle.fingerprint.specs.Fingerprint.{fp, same, empty}
-use Rattle.ladder.specs.Prefix.{block, levels, prefixLength, prefix}
+use Rattle.fingerprint.specs.Fingerprint.{same, empty}
+use Rattle.ladder.specs.Prefix.{block, levels, prefixLength}
 use Rattle.ladder.specs.Ladder as ladder
 use Rattle.ladder.proofs.Starts.{Has}
-use Rattle.matcher.specs.declared.Mark.{Mark}
-use Rattle.matcher.specs.declared.Gap.{Gap}
-use Rattle.matcher.specs.declared.Stage.{Stage}
+use Rattle.signature.specs.declared.Signature.{Signature}
+use Rattle.stage.specs.declared.Mark.{Mark}
+use Rattle.stage.specs.declared.Gap.{Gap}
+use Rattle.stage.specs.declared.Stage.{Stage}
 use Rattle.matcher.specs.declared.Answer.{Answer}
-use Rattle.matcher.specs.declared.Progression.{Progression}
-use Rattle.matcher.specs.Matcher.{stageCount, noStage}
-use Rattle.matcher.specs.Stroke.{gapTo, entered, setsAside, allButLast, withSet, compared, ringing, promoted, promotedUnder, matches, tried}
+use Rattle.stage.specs.declared.Progression.{Progression}
+use Rattle.stage.specs.Stage.{gapTo, entered, setsAside, allButLast}
+use Rattle.stage.specs.Stages.{stageCount, Whole, stageAt, withStage}
+use Rattle.stage.proofs.Stages.{stage-with-same, stage-with-other, whole-with}
+use Rattle.matcher.specs.Stroke.{withSet, compared, ringing, promoted, promotedUnder, matches, tried}
 use Rattle.matcher.specs.declared.Walk.{Walk}
 use Rattle.matcher.specs.declared.Round.{Round}
-use Rattle.refinement.specs.Refinement.{agreeUnder, markIn, summary, readSet, readAnswer}
+use Rattle.refinement.specs.Refinement.{cardTests, markIn, summary, readSet, readAnswer}
 use Rattle.lists.proofs.Cases.{by-test}
 use Rattle.refinement.proofs.Summary.{gapOf, gap-between, summary-entered, summary-aside}
-
-abbrev counted : ladder.Walk → ladder.Walk
-counted l =
-    record {
-      stages = l .stages;
-      answer = record { ring = l .answer .ring; aside = l .answer .aside; comparisons = suc (l .answer .comparisons) };
-    }
 
 -- A set is stored behind those stored before, or none is.
 module _ (b : Bool) (x : Progression) (a : Answer) where
@@ -62,41 +56,34 @@ module _ (b : Bool) (x : Progression) (a : Answer) where
       (λ e. rw (e, take-suc-set (a .sets) (a .asides) x l, map-append readSet (take (a .asides) (a .sets)) (x ∷ [])))
       (λ e. rw (e, append-nil (map readSet (take (a .asides) (a .sets)))))
 
--- A byte as a watch meets it: the card's prints are those of the pattern's tested beginnings, and the history has t + 1 bytes with it.
+-- A byte as the watch over a card meets it: the history has t + 1 bytes with it.
 pub record Scene : Type 0 where
-  pub key : Key
-  pub pattern : List ℕ
-  pub prints : List Fingerprint
+  pub card : Signature
   pub history : List ℕ
   pub t : ℕ
-  pub told : (i : ℕ) → i ≤ levels (length pattern) → getD prints i empty ≡ fp key (prefix pattern i)
-  pub small : levels (length pattern) ≤ stageCount
+  pub small : levels (card .length) ≤ stageCount
   pub now : length history ≡ suc t
 
 module _ (c : Scene) where
   abbrev pub round : Round
-  round =
-      record {
-        signature = record { length = length (c .pattern); key = c .key; prints = c .prints };
-        now = markIn (c .key) (c .history) (suc (c .t));
-      }
+  round = record { signature = c .card; now = markIn (c .card .key) (c .history) (suc (c .t)) }
 
   abbrev pub top : ℕ
-  top = levels (length (c .pattern))
+  top = levels (c .card .length)
 
   abbrev pub size : ℕ → ℕ
-  size i = prefixLength (length (c .pattern)) i
+  size i = prefixLength (c .card .length) i
 
   abbrev pub mark : ℕ → Mark
-  mark s = markIn (c .key) (c .history) s
+  mark s = markIn (c .card .key) (c .history) s
 
   abbrev pub stored : List ℕ → Stage
-  stored xs = summary (c .key) (c .history) xs
+  stored xs = summary (c .card .key) (c .history) xs
 
   -- The watch stores what the ladder lists and answers what it answers, with at most n sets set aside.
   pub record Follows (n : ℕ) (l : ladder.Walk) (w : Walk) : Type 0 where
-    pub long : length (w .stages) ≡ stageCount
-    pub stage : (j : ℕ) → j < stageCount → getD (w .stages) j noStage ≡ stored (l .stages j)
+    pub long : Whole (w .stages)
+    pub stage : (j : ℕ) → j < stageCount → stageAt (w .stages) j ≡ stored (l .stages j)
     pub room : length (w .answer .sets) ≡ stageCount
     pub few : w .answer .asides ≤ n
     pub answer : readAnswer (w .answer) ≡ l .answer
@@ -104,22 +91,21 @@ module _ (c : Scene) where
   -- Both compare the same block with P_i.
   matches-same :
       (i s : ℕ)
-      → i ≤ top
       → s + size i ≡ suc (c .t)
-      → matches round i (mark s) ≡ agreeUnder (c .key) (block (c .history) s (size i)) (prefix (c .pattern) i)
-  matches-same i s l due =
+      → matches round i (mark s) ≡ cardTests (c .card) .matches i (block (c .history) s (size i))
+  matches-same i s due =
       let n : suc (c .t) - s ≡ size i = omega arith in
-      let gap : gapTo (c .key) (mark s) (mark (suc (c .t))) ≡ gapOf (c .key) (c .history) s (suc (c .t)) =
-      gap-between (c .key) (c .history) s (suc (c .t)) (omega arith) (omega (arith, c .now))
+      let gap : gapTo (c .card .key) (mark s) (mark (suc (c .t))) ≡ gapOf (c .card .key) (c .history) s (suc (c .t)) =
+      gap-between (c .card .key) (c .history) s (suc (c .t)) (omega arith) (omega (arith, c .now))
       in
-      ap (λ (g : Gap). same (g .print) (getD (c .prints) i empty)) gap ∙ rw (c .told i l, n)
+      ap (λ (g : Gap). same (g .print) (getD (c .card .prints) i empty)) gap ∙ rw n
 
   -- the ladder's functions at this byte
   abbrev pub comparing : ℕ → ℕ → ladder.Walk → ladder.Walk
-  comparing = ladder.compare (agreeUnder (c .key)) (c .pattern) (c .history)
+  comparing = ladder.compare (cardTests (c .card)) (c .history)
 
   abbrev pub entering : ℕ → ℕ → ladder.Walk → ladder.Walk
-  entering = ladder.entering (agreeUnder (c .key)) (c .pattern) (c .history)
+  entering = ladder.entering (cardTests (c .card)) (c .history)
 
   module _ (n : ℕ) (l : ladder.Walk) (w : Walk) (q : Follows n l w) where
     pub more-follows : (k : ℕ) → n ≤ k → Follows k l w
@@ -127,7 +113,7 @@ module _ (c : Scene) where
         record { long = q .long; stage = q .stage; room = q .room; few = omega arith; answer = q .answer }
 
     -- one comparison more
-    count-follows : Follows n (counted l) (record { stages = w .stages; answer = compared (w .answer) })
+    count-follows : Follows n (ladder.counted l) (record { stages = w .stages; answer = compared (w .answer) })
     count-follows =
         record {
           long = q .long;
@@ -142,7 +128,7 @@ module _ (c : Scene) where
 
     ring-follows :
         (s : ℕ)
-        → Follows n (ladder.ringing (agreeUnder (c .key)) (c .pattern) s l)
+        → Follows n (ladder.ringing s l)
         (record { stages = w .stages; answer = ringing s (w .answer) })
     ring-follows s =
         record {
@@ -165,42 +151,42 @@ module _ (c : Scene) where
         (low : (x : ℕ) → Has (l .stages i) x → x ≤ s)
       where
         abbrev old : Stage
-        old = getD (w .stages) i noStage
+        old = stageAt (w .stages) i
 
         abbrev aside : Bool
-        aside = setsAside (c .key) old (mark s)
+        aside = setsAside (c .card .key) old (mark s)
 
         enter-stage :
             (j : ℕ)
             → j < stageCount
-            → getD (set (w .stages) i (entered (c .key) old (mark s))) j noStage ≡ stored (entering i s l .stages j)
+            → stageAt (withStage (w .stages) i (entered (c .card .key) old (mark s))) j ≡ stored (entering i s l .stages j)
         enter-stage j b =
             elim (ℕ-discrete j i) [
               | yes e ↦
                   rw (
                     e,
                     eq-eqb i i refl,
-                    getD-set-same (w .stages) i (entered (c .key) old (mark s)) noStage (omega (arith, q .long)),
+                    stage-with-same (w .stages) i (entered (c .card .key) old (mark s)) (q .long) place,
                     q .stage i place,
                   )
-                  (summary-entered (c .key) (c .history) (c .pattern) s inside (l .stages i) low)
-              | no e ↦ rw (ne-eqb j i e) (getD-set-other (w .stages) i j _ noStage e ∙ q .stage j b)
+                  (summary-entered (c .card) (c .history) s inside (l .stages i) low)
+              | no e ↦ rw (ne-eqb j i e) (stage-with-other (w .stages) i _ j e ∙ q .stage j b)
             ]
 
         enter-aside :
             map readSet (cond aside (allButLast old ∷ []) [])
-            ≡ ladder.enter (agreeUnder (c .key)) (c .pattern) (c .history) (l .stages i) s .aside
-        enter-aside = rw (q .stage i place) (summary-aside (c .key) (c .history) (c .pattern) s inside (l .stages i) low)
+            ≡ ladder.enter (cardTests (c .card)) (c .history) (l .stages i) s .aside
+        enter-aside = rw (q .stage i place) (summary-aside (c .card) (c .history) s inside (l .stages i) low)
 
         enter-follows :
             Follows (suc n) (entering i s l)
             (record {
-              stages = set (w .stages) i (entered (c .key) old (mark s));
+              stages = withStage (w .stages) i (entered (c .card .key) old (mark s));
               answer = cond aside (withSet (allButLast old) (w .answer)) (w .answer);
             })
         enter-follows =
             record {
-              long = length-set (w .stages) i _ ∙ q .long;
+              long = whole-with (w .stages) i _ (q .long);
               stage = enter-stage;
               room = with-room aside (allButLast old) (w .answer) ∙ q .room;
               few = omega (arith, with-few aside (allButLast old) (w .answer));
@@ -221,16 +207,16 @@ module _ (c : Scene) where
   compare-follows i s l w b due low q =
       let n : ℕ = top - suc i in
       let r = count-follows n l w q in
-      by-test (agreeUnder (c .key) (block (c .history) s (size i)) (prefix (c .pattern) i))
+      by-test (cardTests (c .card) .matches i (block (c .history) s (size i)))
       (λ e.
       by-test (eqb i top)
       (λ f.
-      rw (matches-same i s b due, e, tried, ladder.compare, f, promoted, ladder.promote)
+      rw (matches-same i s due, e, tried, ladder.compare, f, promoted, ladder.promote)
       (more-follows n _ _ (ring-follows n _ _ r s) (top - i) (omega arith)))
       (λ f.
       let d : i ≡ top → ⊥ = eqb-false _ _ f in
-      rw (matches-same i s b due, e, tried, ladder.compare, f, promoted, ladder.promote)
+      rw (matches-same i s due, e, tried, ladder.compare, f, promoted, ladder.promote)
       (more-follows (suc n) _ _
       (enter-follows n _ _ r i s (omega (arith, c .small)) (omega (arith, c .small)) (omega (arith, c .now)) low) (top - i)
       (omega arith))))
-      (λ e. rw (matches-same i s b due, e, tried, ladder.compare) (more-follows n _ _ r (top - i) (omega arith)))
+      (λ e. rw (matches-same i s due, e, tried, ladder.compare) (more-follows n _ _ r (top - i) (omega arith)))

@@ -4,4 +4,4 @@ pub mod Visits
 pub mod WatchFits
 pub mod Refines
 pub mod Readings
-pub mod EveryCard
+pub mod Passages

@@ -1,61 +1,53 @@
--- The compact watch is the ladder with unlimited lists: a byte takes the watch of a history to that of the longer history, and the answer
--- reads as the ladder's.
+-- The compact watch over any card that is no misfit is the ladder with unlimited lists: a byte takes the watch of a history to that of the
+-- longer history, and the answer reads as the ladder's.
 -- Assumes nothing.
 use Prim.Native.Nat.{ℕ, suc, _+_, _≤_, _<_}
-use mathlib.Core.Path.{_≡_, refl, sym, _∙_, ap}
+use mathlib.Core.Path.{_≡_, sym, _∙_, ap}
 use mathlib.Core.Bool.{true}
 use mathlib.Core.List.{List, [], _∷_, _++_}
 use native.Mathlib.Numerals.{add-one}
 use native.Mathlib.Omega.{arith}
-use lib.ListN.{length, getD, take, length-append}
+use lib.ListN.{length, take, length-append}
 use lib.Seq.{take-length, take-all}
-use borrow.Author.Tests.{eqb-true, eq-eqb, lt-ltb}
+use borrow.Author.Tests.{lt-ltb}
 use Rattle.fingerprint.specs.declared.Key.{Key}
 use Rattle.fingerprint.specs.declared.Fingerprint.{Fingerprint}
-use Rattle.fingerprint.specs.Fingerprint.{keyFits, fp}
-use Rattle.fingerprint.proofs.Laws.{fp-push}
+use Rattle.fingerprint.specs.Fingerprint.{agreeUnder}
+use Rattle.fingerprint.proofs.Laws.{fp-push, agree-self, agree-back, agree-on}
 use Rattle.ladder.specs.Ladder as ladder
 use Rattle.ladder.proofs.Levels.{levels-bound}
 use Rattle.ladder.proofs.Grow.{after-append}
 use Rattle.ladder.proofs.Stages.{after-staged}
 use Rattle.ladder.proofs.Even.{after-even}
-use Rattle.ladder.proofs.Gaps.{after-alike}
-use Rattle.lists.specs.Lists.{tabulate}
-use Rattle.lists.proofs.Laws.{length-tabulate, getD-tabulate, tabulated}
-use Rattle.signature.specs.Signature.{maxLength, signatureFits, signatureOf}
-use Rattle.matcher.specs.Matcher.{maxTaken, stageCount, noStage}
+use Rattle.ladder.proofs.Gaps.{Equivalence, after-alike}
+use Rattle.signature.specs.declared.Signature.{Signature}
+use Rattle.signature.specs.Signature.{signatureFits}
+use Rattle.stage.specs.Stage.{maxTaken}
+use Rattle.stage.specs.Stages.{stageCount, stageAt, stagesOf}
+use Rattle.stage.proofs.Stages.{stages-same, whole-of, stage-of}
 use Rattle.matcher.specs.Stroke.{nextMark, walkedFrom, walked, strokeRefusal, strokeAnswer}
 use Rattle.matcher.specs.declared.Walk.{Walk}
-use Rattle.lists.specs.Lists.{Bytes}
-use Rattle.refinement.specs.Refinement.{agreeUnder, markIn, summary, watchOf, Refines}
-use Rattle.signature.proofs.Card.{card-prints, card-fits}
+use Rattle.refinement.specs.Refinement.{cardTests, markIn, summary, watchOf, Refines}
+use Rattle.signature.proofs.Card.{SoundCard, sound-card}
 use Rattle.refinement.proofs.Summary.{mark-grown, summary-grown}
 use Rattle.refinement.proofs.Follow.{Scene, top, Follows}
 use Rattle.refinement.proofs.Visits.{Upon, step-follows}
 use Rattle.matcher.proofs.Sound.{after-taken}
-use Rattle.refinement.proofs.WatchFits.{card-long, card-short, card-watch-fits}
+use Rattle.refinement.proofs.WatchFits.{fits}
 
 -- To have one fingerprint is an equivalence.
-module _ (key : Key) where
-  abbrev value : List ℕ → ℕ
-  value u = fp key u .value
+by-print : (key : Key) → Equivalence (agreeUnder key)
+by-print key = record { self = agree-self key; back = agree-back key; on = agree-on key }
 
-  pub agree-same : (u : List ℕ) → agreeUnder key u u ≡ true
-  agree-same u = eq-eqb (value u) (value u) refl
+module _ (card : Signature) (card-fits : signatureFits card ≡ true) where
+  abbrev key : Key
+  key = card .key
 
-  pub agree-back : (u v : List ℕ) → agreeUnder key u v ≡ true → agreeUnder key v u ≡ true
-  agree-back u v e = eq-eqb (value v) (value u) (sym (eqb-true (value u) (value v) e))
+  abbrev tests : ladder.Tests
+  tests = cardTests card
 
-  pub agree-on : (u v x : List ℕ) → agreeUnder key u v ≡ true → agreeUnder key v x ≡ true → agreeUnder key u x ≡ true
-  agree-on u v x e f = eq-eqb (value u) (value x) (eqb-true (value u) (value v) e ∙ eqb-true (value v) (value x) f)
-
--- The card of any list of numbers, bytes or not, if it is no misfit.
-module _ (key : Key) (p : List ℕ) (card : signatureFits (signatureOf key p) ≡ true) where
-  long : 1 ≤ length p
-  long = card-long key p card
-
-  short : length p ≤ maxLength
-  short = card-short key p card
+  sound : SoundCard card
+  sound = sound-card card card-fits
 
   module _ (h : List ℕ) (b : ℕ) where
     abbrev grown : List ℕ
@@ -68,34 +60,31 @@ module _ (key : Key) (p : List ℕ) (card : signatureFits (signatureOf key p) �
     abbrev scene : Scene
     scene =
         record {
-          key = key;
-          pattern = p;
-          prints = signatureOf key p .prints;
+          card = card;
           history = grown;
           t = length h;
-          told = card-prints key p short;
-          small = levels-bound (length p) short;
+          small = levels-bound (card .length) (sound .short);
           now = grown-length;
         }
 
     abbrev before : ladder.Stages
-    before = ladder.after (agreeUnder key) p grown (length h)
+    before = ladder.after tests grown (length h)
 
     upon : Upon scene before
     upon =
         let l : length h ≤ length grown = omega (arith, grown-length) in
         record {
-          ok = after-staged (agreeUnder key) p grown long (length h) l;
-          even = after-even (agreeUnder key) p grown long (length h) l;
-          like = after-alike (agreeUnder key) grown (agree-same key) (agree-back key) (agree-on key) p long (length h) l;
+          ok = after-staged tests grown (sound .long) (length h) l;
+          even = after-even tests grown (sound .long) (length h) l;
+          like = after-alike tests grown (by-print key) (sound .long) (length h) l;
         }
 
     -- The watch stores the same of the longer history's first bytes.
-    stored-before : (i : ℕ) → i < stageCount → getD (watchOf key p h .stages) i noStage ≡ summary key grown (before i)
+    stored-before : (i : ℕ) → i < stageCount → stageAt (watchOf card h .stages) i ≡ summary key grown (before i)
     unfolding watchOf
     stored-before i l =
-        getD-tabulate _ stageCount i noStage l
-        ∙ ap (λ (s : ladder.Stages). summary key h (s i)) (sym (after-append (agreeUnder key) p h (b ∷ []) (length h) (omega arith)))
+        stage-of _ i l
+        ∙ ap (λ (s : ladder.Stages). summary key h (s i)) (sym (after-append tests h (b ∷ []) (length h) (omega arith)))
         ∙ sym (summary-grown key h (b ∷ []) (before i) (λ s r. omega (arith, upon .ok .aged i .old s r)))
 
     whole : take (suc (length h)) grown ≡ grown
@@ -108,66 +97,57 @@ module _ (key : Key) (p : List ℕ) (card : signatureFits (signatureOf key p) �
 
     -- The ladder's step at this byte, and the watch's.
     abbrev stepped : ladder.Walk
-    stepped = ladder.step (agreeUnder key) p grown before
+    stepped = ladder.step tests grown before
 
-    walked-follows : Follows scene (top scene) stepped (walked (watchOf key p h) b)
-    unfolding walkedFrom watchOf signatureOf
+    walked-follows : Follows scene (top scene) stepped (walked (watchOf card h) b)
+    unfolding walkedFrom watchOf
     walked-follows =
         rw (next-mark, ← mark-grown key h (b ∷ []) (length h) (omega arith))
-        (step-follows scene before upon long _ (length-tabulate _ stageCount) stored-before)
+        (step-follows scene before upon (sound .long) _ (whole-of _) stored-before)
 
     -- That step leads to what the ladder lists after the byte, and to its answer.
-    stepped-after : stepped .stages ≡ ladder.after (agreeUnder key) p grown (length grown)
+    stepped-after : stepped .stages ≡ ladder.after tests grown (length grown)
     unfolding ladder.after
-    stepped-after =
-        rw grown-length (ap (λ (x : List ℕ). ladder.step (agreeUnder key) p x before .stages) (sym whole))
+    stepped-after = rw grown-length (ap (λ (x : List ℕ). ladder.step tests x before .stages) (sym whole))
 
-    stepped-answer : stepped .answer ≡ ladder.answerAt (agreeUnder key) p grown (length h + 1)
+    stepped-answer : stepped .answer ≡ ladder.answerAt tests grown (length h + 1)
     unfolding ladder.answerAt
-    stepped-answer = rw add-one (ap (λ (x : List ℕ). ladder.step (agreeUnder key) p x before .answer) (sym whole))
+    stepped-answer = rw add-one (ap (λ (x : List ℕ). ladder.step tests x before .answer) (sym whole))
 
     stages-after :
-        walked (watchOf key p h) b .stages
-        ≡ tabulate (λ i. summary key grown (ladder.after (agreeUnder key) p grown (length grown) i)) stageCount
+        walked (watchOf card h) b .stages
+        ≡ stagesOf (λ i. summary key grown (ladder.after tests grown (length grown) i))
     stages-after =
-        tabulated _ stageCount noStage _ (walked-follows .long)
-        (λ i l. walked-follows .stage i l ∙ ap (λ (s : ladder.Stages). summary key grown (s i)) stepped-after)
+        stages-same _ _ (walked-follows .long) (whole-of _)
+        (λ i l.
+        walked-follows .stage i l
+        ∙ ap (λ (s : ladder.Stages). summary key grown (s i)) stepped-after
+        ∙ sym (stage-of _ i l))
 
-    accepted : length h < maxTaken → strokeRefusal (watchOf key p h) ≡ 0
+    accepted : length h < maxTaken → strokeRefusal (watchOf card h) ≡ 0
     unfolding watchOf
-    accepted l = rw (card-watch-fits key p card h, lt-ltb (length h) maxTaken l)
+    accepted l = rw (fits card card-fits h, lt-ltb (length h) maxTaken l)
 
     watch-after :
         record {
-          signature = watchOf key p h .signature;
-          now = nextMark (watchOf key p h .signature .key) (watchOf key p h .now) b;
-          stages = walked (watchOf key p h) b .stages;
+          signature = watchOf card h .signature;
+          now = nextMark (watchOf card h .signature .key) (watchOf card h .now) b;
+          stages = walked (watchOf card h) b .stages;
         }
-        ≡ watchOf key p grown
-    unfolding watchOf signatureOf
+        ≡ watchOf card grown
+    unfolding watchOf
     watch-after =
         let now : nextMark key (markIn key h (length h)) b ≡ markIn key grown (length grown) =
         next-mark ∙ ap (markIn key grown) (sym grown-length)
         in
-        λ i. record { signature = signatureOf key p; now = now i; stages = stages-after i }
+        λ i. record { signature = card; now = now i; stages = stages-after i }
 
-    pub card-refines : length h < maxTaken → Refines key p h b
+    -- Of every card that is no misfit, made from a passage or not.
+    pub refines : length h < maxTaken → Refines card (cardTests card) h b
     unfolding strokeAnswer
-    card-refines l =
+    refines l =
         record {
           accepted = accepted l;
-          watch = after-taken (watchOf key p h) b (accepted l) ∙ watch-after;
+          watch = after-taken (watchOf card h) b (accepted l) ∙ watch-after;
           answer = rw (accepted l, strokeAnswer) (walked-follows .answer ∙ stepped-answer);
         }
-
--- The card of a pattern of bytes.
-pub refines :
-    (key : Key) (p : List ℕ)
-    → keyFits key ≡ true
-    → 1 ≤ length p
-    → length p ≤ maxLength
-    → Bytes p
-    → (h : List ℕ) (b : ℕ)
-    → length h < maxTaken
-    → Refines key p h b
-refines key p key-fits long short pattern = card-refines key p (card-fits key p long short key-fits pattern)

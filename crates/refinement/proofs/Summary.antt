@@ -8,23 +8,23 @@ use mathlib.Core.List.{List, [], _∷_, _++_, map}
 use native.Mathlib.Omega.{arith}
 use lib.ListN.{length, take, drop, length-append, length-drop}
 use lib.Seq.{take-add, take-append-le, drop-append-le}
-use borrow.Author.Tests.{eqb-true, ne-eqb, lt-ltb}
+use borrow.Author.Tests.{ne-eqb, lt-ltb}
 use Rattle.fingerprint.specs.declared.Key.{Key}
 use Rattle.fingerprint.specs.declared.Fingerprint.{Fingerprint}
-use Rattle.fingerprint.specs.Fingerprint.{fp, joined}
-use Rattle.fingerprint.proofs.Laws.{by-value, fp-join, fp-cut}
+use Rattle.fingerprint.specs.Fingerprint.{fp, joined, agreeUnder}
+use Rattle.fingerprint.proofs.Laws.{same-eq, fp-join, fp-cut}
 use Rattle.ladder.specs.Prefix.{block}
 use Rattle.ladder.specs.Ladder as ladder
 use Rattle.ladder.proofs.Blocks.{block-length}
 use Rattle.ladder.proofs.Starts.{Has, Ascending, has-last}
 use Rattle.ladder.proofs.Even.{Even}
 use Rattle.ladder.proofs.Gaps.{Alike}
-use Rattle.matcher.specs.declared.Gap.{Gap}
-use Rattle.matcher.specs.Matcher.{sameGap}
-use Rattle.matcher.specs.Stroke.{alone, gapTo, forward, takenOff, entered, setsAside, allButLast}
+use Rattle.signature.specs.declared.Signature.{Signature}
+use Rattle.stage.specs.declared.Gap.{Gap}
+use Rattle.stage.specs.Stage.{sameGap, alone, gapTo, forward, takenOff, entered, setsAside, allButLast}
 use Rattle.lists.proofs.Cases.{by-test}
-use Rattle.matcher.proofs.Fit.{stage-by}
-use Rattle.refinement.specs.Refinement.{agreeUnder, markIn, summary, readSet}
+use Rattle.stage.proofs.Fit.{stage-by}
+use Rattle.refinement.specs.Refinement.{cardTests, markIn, summary, readSet}
 
 last-snoc : (x : ℕ) (xs : List ℕ) (z : ℕ) → ladder.lastOf x (xs ++ z ∷ []) ≡ z
 unfolding ladder.lastOf
@@ -68,17 +68,12 @@ module _ (key : Key) (h : List ℕ) where
   summary-first x [] = refl
   summary-first x (y ∷ more) = refl
 
-  pub summary-last : (x : ℕ) (xs : List ℕ) → summary key h (x ∷ xs) .last ≡ markIn key h (ladder.lastOf x xs)
-  unfolding summary ladder.lastOf
-  summary-last x [] = refl
-  summary-last x (y ∷ more) = refl
-
   -- The gap of the first two starts is that of the next two.
   next-gap : (x y z : ℕ) (zs : List ℕ) → Even (x ∷ y ∷ z ∷ zs) → Alike (agreeUnder key) h (x ∷ y ∷ z ∷ zs) → gapOf x y ≡ gapOf y z
   next-gap x y z zs e a =
       let d : y - x ≡ z - y = omega arith in
       let f : fp key (block h x (y - x)) ≡ fp key (block h y (z - y)) =
-      subst (λ n. fp key (block h x (y - x)) ≡ fp key (block h y n)) d (sym (by-value _ _ (eqb-true _ _ (a .1 .0))))
+      subst (λ n. fp key (block h x (y - x)) ≡ fp key (block h y n)) d (sym (same-eq _ _ (a .1 .0)))
       in
       λ i. record { length = d i; print = f i }
 
@@ -99,70 +94,73 @@ module _ (key : Key) (h : List ℕ) where
       (stage-by (omega arith) (forward-to x y (omega (arith, up .0 y (inl refl))) (low y (inr (inl refl)))) refl
       (next-gap x y z zs even like))
 
-  -- A start enters behind those listed, or all of them but the last are set aside.
-  module _ (p : List ℕ) (z : ℕ) (inside : z ≤ length h) where
-    abbrev entering : List ℕ → ladder.Entered
-    entering xs = ladder.enter (agreeUnder key) p h xs z
+-- A start enters behind those listed, or all of them but the last are set aside.
+module _ (card : Signature) (h : List ℕ) (z : ℕ) (inside : z ≤ length h) where
+  abbrev key : Key
+  key = card .key
 
-    -- whether the newcomer continues the progression
-    same-step :
-        (x y : ℕ) (more : List ℕ)
-        → ladder.lastOf y more ≤ z
-        → sameGap (gapTo key (markIn key h (ladder.lastOf y more)) (markIn key h z)) (gapOf x y)
-        ≡ ladder.continues (agreeUnder key) p h x y (ladder.lastOf y more) z
-    same-step x y more l = ap (λ (g : Gap). sameGap g (gapOf x y)) (gap-between (ladder.lastOf y more) z l inside)
+  abbrev entering : List ℕ → ladder.Entered
+  entering xs = ladder.enter (cardTests card) h xs z
 
-    pub summary-entered :
-        (xs : List ℕ)
-        → ((s : ℕ) → Has xs s → s ≤ z)
-        → entered key (summary key h xs) (markIn key h z) ≡ summary key h (entering xs .listed)
-    unfolding entered summary ladder.enter ladder.lastOf
-    summary-entered [] low = refl
-    summary-entered (x ∷ []) low = stage-by refl refl refl (gap-between x z (low x (inl refl)) inside)
-    summary-entered (x ∷ y ∷ more) low =
-        let last : ladder.lastOf y more ≤ z = low _ (inr (has-last y more)) in
-        let n : ℕ = suc (suc (length more)) in
-        by-test (ladder.continues (agreeUnder key) p h x y (ladder.lastOf y more) z)
-        (λ e.
-        rw (ne-eqb n 0 (omega arith), ne-eqb n 1 (omega arith), same-step x y more last, e, entered)
-        (stage-by (simp length-append (omega arith)) refl (ap (markIn key h) (sym (last-snoc y more z))) refl))
-        (λ e.
-        rw (ne-eqb n 0 (omega arith), ne-eqb n 1 (omega arith), same-step x y more last, e, entered)
-        (stage-by refl refl refl (gap-between (ladder.lastOf y more) z last inside)))
+  -- whether the newcomer continues the progression
+  same-step :
+      (x y : ℕ) (more : List ℕ)
+      → ladder.lastOf y more ≤ z
+      → sameGap (gapTo key (markIn key h (ladder.lastOf y more)) (markIn key h z)) (gapOf key h x y)
+      ≡ ladder.continues (cardTests card) h x y (ladder.lastOf y more) z
+  same-step x y more l = ap (λ (g : Gap). sameGap g (gapOf key h x y)) (gap-between key h (ladder.lastOf y more) z l inside)
 
-    pub summary-aside :
-        (xs : List ℕ)
-        → ((s : ℕ) → Has xs s → s ≤ z)
-        → map readSet
-        (cond (setsAside key (summary key h xs) (markIn key h z)) (allButLast (summary key h xs) ∷ []) [])
-        ≡ entering xs .aside
-    unfolding summary ladder.enter ladder.lastOf
-    summary-aside [] low = refl
-    summary-aside (x ∷ []) low = refl
-    summary-aside (x ∷ y ∷ more) low =
-        let last : ladder.lastOf y more ≤ z = low _ (inr (has-last y more)) in
-        let many : suc (suc (length more)) - 1 ≡ suc (length more) = omega arith in
-        rw (lt-ltb 1 (suc (suc (length more))) (omega arith), same-step x y more last)
-        (by-test (ladder.continues (agreeUnder key) p h x y (ladder.lastOf y more) z)
-        (λ e. rw e)
-        (λ e. rw (e, many)))
+  pub summary-entered :
+      (xs : List ℕ)
+      → ((s : ℕ) → Has xs s → s ≤ z)
+      → entered key (summary key h xs) (markIn key h z) ≡ summary key h (entering xs .listed)
+  unfolding entered summary ladder.enter ladder.lastOf
+  summary-entered [] low = refl
+  summary-entered (x ∷ []) low = stage-by refl refl refl (gap-between key h x z (low x (inl refl)) inside)
+  summary-entered (x ∷ y ∷ more) low =
+      let last : ladder.lastOf y more ≤ z = low _ (inr (has-last y more)) in
+      let n : ℕ = suc (suc (length more)) in
+      by-test (ladder.continues (cardTests card) h x y (ladder.lastOf y more) z)
+      (λ e.
+      rw (ne-eqb n 0 (omega arith), ne-eqb n 1 (omega arith), same-step x y more last, e, entered)
+      (stage-by (simp length-append (omega arith)) refl (ap (markIn key h) (sym (last-snoc y more z))) refl))
+      (λ e.
+      rw (ne-eqb n 0 (omega arith), ne-eqb n 1 (omega arith), same-step x y more last, e, entered)
+      (stage-by refl refl refl (gap-between key h (ladder.lastOf y more) z last inside)))
 
-  -- With more bytes, what is stored of earlier places stays.
-  module _ (u : List ℕ) where
-    pub mark-grown : (s : ℕ) → s ≤ length h → markIn key (h ++ u) s ≡ markIn key h s
-    mark-grown s l = ap (λ (x : List ℕ). record { at = s; print = fp key x }) (take-append-le s h u l)
+  pub summary-aside :
+      (xs : List ℕ)
+      → ((s : ℕ) → Has xs s → s ≤ z)
+      → map readSet
+      (cond (setsAside key (summary key h xs) (markIn key h z)) (allButLast (summary key h xs) ∷ []) [])
+      ≡ entering xs .aside
+  unfolding summary ladder.enter ladder.lastOf
+  summary-aside [] low = refl
+  summary-aside (x ∷ []) low = refl
+  summary-aside (x ∷ y ∷ more) low =
+      let last : ladder.lastOf y more ≤ z = low _ (inr (has-last y more)) in
+      let many : suc (suc (length more)) - 1 ≡ suc (length more) = omega arith in
+      rw (lt-ltb 1 (suc (suc (length more))) (omega arith), same-step x y more last)
+      (by-test (ladder.continues (cardTests card) h x y (ladder.lastOf y more) z)
+      (λ e. rw e)
+      (λ e. rw (e, many)))
 
-    block-grown : (s n : ℕ) → s + n ≤ length h → block (h ++ u) s n ≡ block h s n
-    block-grown s n l =
-        rw (drop-append-le s h u (omega arith)) (take-append-le n (drop s h) u (simp length-drop (omega arith)))
+-- With more bytes, what is stored of earlier places stays.
+module _ (key : Key) (h u : List ℕ) where
+  pub mark-grown : (s : ℕ) → s ≤ length h → markIn key (h ++ u) s ≡ markIn key h s
+  mark-grown s l = ap (λ (x : List ℕ). record { at = s; print = fp key x }) (take-append-le s h u l)
 
-    pub summary-grown : (xs : List ℕ) → ((s : ℕ) → Has xs s → s ≤ length h) → summary key (h ++ u) xs ≡ summary key h xs
-    unfolding summary
-    summary-grown [] low = refl
-    summary-grown (x ∷ []) low = ap alone (mark-grown x (low x (inl refl)))
-    summary-grown (x ∷ y ∷ more) low =
-        let gap : block (h ++ u) x (y - x) ≡ block h x (y - x) =
-        block-grown x (y - x) (omega (arith, low x (inl refl), low y (inr (inl refl))))
-        in
-        stage-by refl (mark-grown x (low x (inl refl))) (mark-grown _ (low _ (inr (has-last y more))))
-        (ap (λ (b : List ℕ). record { length = y - x; print = fp key b }) gap)
+  block-grown : (s n : ℕ) → s + n ≤ length h → block (h ++ u) s n ≡ block h s n
+  block-grown s n l =
+      rw (drop-append-le s h u (omega arith)) (take-append-le n (drop s h) u (simp length-drop (omega arith)))
+
+  pub summary-grown : (xs : List ℕ) → ((s : ℕ) → Has xs s → s ≤ length h) → summary key (h ++ u) xs ≡ summary key h xs
+  unfolding summary
+  summary-grown [] low = refl
+  summary-grown (x ∷ []) low = ap alone (mark-grown x (low x (inl refl)))
+  summary-grown (x ∷ y ∷ more) low =
+      let gap : block (h ++ u) x (y - x) ≡ block h x (y - x) =
+      block-grown x (y - x) (omega (arith, low x (inl refl), low y (inr (inl refl))))
+      in
+      stage-by refl (mark-grown x (low x (inl refl))) (mark-grown _ (low _ (inr (has-last y more))))
+      (ap (λ (b : List ℕ). record { length = y - x; print = fp key b }) gap)

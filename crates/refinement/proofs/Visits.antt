@@ -9,10 +9,10 @@ use mathlib.Core.Option.{none}
 use native.Mathlib.Decide.{ℕ-discrete}
 use native.Mathlib.Omega.{arith}
 use lib.Dec.{eqb}
-use lib.ListN.{length, getD, set, length-set}
-use lib.Seq.{getD-set-same, getD-set-other}
+use lib.ListN.{length}
 use borrow.Author.Tests.{eq-eqb, ne-eqb}
-use Rattle.ladder.specs.Prefix.{block, prefix}
+use Rattle.fingerprint.specs.Fingerprint.{agreeUnder}
+use Rattle.ladder.specs.Prefix.{block}
 use Rattle.ladder.specs.Ladder as ladder
 use Rattle.ladder.proofs.Byte.{Byte, rest, due, tested}
 use Rattle.ladder.proofs.Step.{untested}
@@ -22,24 +22,25 @@ use Rattle.ladder.proofs.Aged.{Staged}
 use Rattle.ladder.proofs.Visited.{Met, Kept, Taken, rest-view, rest-has, due-tested, tried-at}
 use Rattle.ladder.proofs.Even.{Even}
 use Rattle.ladder.proofs.Gaps.{Alike}
-use Rattle.matcher.specs.declared.Stage.{Stage}
-use Rattle.matcher.specs.Matcher.{stageCount, noStage}
-use Rattle.matcher.specs.Stroke.{takenOff, tried, ripe, visited, descended, noAnswer}
+use Rattle.stage.specs.Stage.{takenOff}
+use Rattle.stage.specs.Stages.{stageCount, Stages, Whole, stageAt, withStage}
+use Rattle.stage.proofs.Stages.{stage-with-same, stage-with-other, whole-with}
+use Rattle.matcher.specs.Stroke.{tried, ripe, visited, descended, noAnswer}
 use Rattle.matcher.specs.declared.Walk.{Walk}
-use Rattle.refinement.specs.Refinement.{agreeUnder, summary}
+use Rattle.refinement.specs.Refinement.{cardTests, summary}
 use Rattle.lists.proofs.Cases.{by-test}
 use Rattle.refinement.proofs.Summary.{summary-held, summary-first, summary-off}
 use Rattle.refinement.proofs.Follow.{Scene, round, top, size, mark, stored, comparing, Follows, more-follows, compare-follows}
 
 -- What the ladder's theory says of the stages that a byte comes upon.
 pub record Upon (c : Scene) (stages : ladder.Stages) : Type 0 where
-  pub ok : Staged (length (c .pattern)) (c .t) stages
+  pub ok : Staged (c .card .length) (c .t) stages
   pub even : (i : ℕ) → Even (stages i)
-  pub like : (i : ℕ) → Alike (agreeUnder (c .key)) (c .history) (stages i)
+  pub like : (i : ℕ) → Alike (agreeUnder (c .card .key)) (c .history) (stages i)
 
 module _ (c : Scene) (stages : ladder.Stages) (u : Upon c stages) where
   abbrev byte : Byte
-  byte = record { agree = agreeUnder (c .key); pattern = c .pattern; history = c .history; stages = stages }
+  byte = record { tests = cardTests (c .card); history = c .history; stages = stages }
 
   met : Met byte (c .t)
   met = record { now = c .now; ok = u .ok }
@@ -47,7 +48,11 @@ module _ (c : Scene) (stages : ladder.Stages) (u : Upon c stages) where
   -- Whether a stage is ripe, the watch sees from its first start.
   ripe-stored : (i x : ℕ) (xs : List ℕ) → ripe (round c) i (stored c (x ∷ xs)) ≡ eqb (x + size c (suc i)) (suc (c .t))
   ripe-stored i x xs =
-      rw (summary-held (c .key) (c .history) x xs, summary-first (c .key) (c .history) x xs, ne-eqb (suc (length xs)) 0 (omega arith))
+      rw (
+        summary-held (c .card .key) (c .history) x xs,
+        summary-first (c .card .key) (c .history) x xs,
+        ne-eqb (suc (length xs)) 0 (omega arith),
+      )
 
   ripe-kept : (i : ℕ) (xs : List ℕ) → stages i ≡ xs → tested byte (suc i) ≡ false → ripe (round c) i (stored c xs) ≡ false
   unfolding summary
@@ -62,7 +67,7 @@ module _ (c : Scene) (stages : ladder.Stages) (u : Upon c stages) where
   compare-other : (i s j : ℕ) (l : ladder.Walk) → (j ≡ i → ⊥) → comparing c i s l .stages j ≡ l .stages j
   unfolding ladder.compare ladder.promote
   compare-other i s j l n =
-      by-test (agreeUnder (c .key) (block (c .history) s (size c i)) (prefix (c .pattern) i))
+      by-test (cardTests (c .card) .matches i (block (c .history) s (size c i)))
       (λ e.
       by-test (eqb i (top c))
       (λ f. rw (e, ladder.compare, f, ladder.promote))
@@ -70,7 +75,7 @@ module _ (c : Scene) (stages : ladder.Stages) (u : Upon c stages) where
       (λ e. rw (e, ladder.compare))
 
   abbrev visiting : ℕ → ladder.Walk → ladder.Walk
-  visiting = ladder.visit (agreeUnder (c .key)) (c .pattern) (c .history)
+  visiting = ladder.visit (cardTests (c .card)) (c .history)
 
   -- Before stage i - 1 is visited: stage i has lost its ripe start, and the stages below are those before the byte.
   record Midway (i : ℕ) (l : ladder.Walk) (w : Walk) : Type 0 where
@@ -85,7 +90,7 @@ module _ (c : Scene) (stages : ladder.Stages) (u : Upon c stages) where
     place : i < stageCount
     place = omega (arith, c .small)
 
-    held : getD (w .stages) i noStage ≡ stored c (stages i)
+    held : stageAt (w .stages) i ≡ stored c (stages i)
     held = q .follows .stage i place ∙ ap (stored c) listed
 
     -- no start is ripe
@@ -108,17 +113,17 @@ module _ (c : Scene) (stages : ladder.Stages) (u : Upon c stages) where
 
     off-follows :
         (xs : List ℕ)
-        → Follows c (top c - suc (suc i)) (lesser xs) (record { stages = set (w .stages) i (stored c xs); answer = w .answer })
+        → Follows c (top c - suc (suc i)) (lesser xs) (record { stages = withStage (w .stages) i (stored c xs); answer = w .answer })
     off-follows xs =
         record {
-          long = length-set (w .stages) i _ ∙ q .follows .long;
+          long = whole-with (w .stages) i _ (q .follows .long);
           stage =
               λ j o.
               elim (ℕ-discrete j i) [
                 | yes e ↦
                     rw (e, eq-eqb i i refl)
-                    (getD-set-same (w .stages) i (stored c xs) noStage (omega (arith, q .follows .long, place)))
-                | no e ↦ rw (ne-eqb j i e) (getD-set-other (w .stages) i j _ noStage e ∙ q .follows .stage j o)
+                    (stage-with-same (w .stages) i (stored c xs) (q .follows .long) place)
+                | no e ↦ rw (ne-eqb j i e) (stage-with-other (w .stages) i _ j e ∙ q .follows .stage j o)
               ];
           room = q .follows .room;
           few = q .follows .few;
@@ -129,11 +134,11 @@ module _ (c : Scene) (stages : ladder.Stages) (u : Upon c stages) where
     older : (s x : ℕ) → s + size c (suc i) ≡ suc (c .t) → Has (l .stages (suc i)) x → x ≤ s
     older s x due r = omega (arith, u .ok .aged (suc i) .old x (rest-has met (suc i) x (rw (q .here) at r) .0))
 
-    summary-taken : (s : ℕ) (xs : List ℕ) → stages i ≡ s ∷ xs → takenOff (c .key) (stored c (s ∷ xs)) ≡ stored c xs
+    summary-taken : (s : ℕ) (xs : List ℕ) → stages i ≡ s ∷ xs → takenOff (c .card .key) (stored c (s ∷ xs)) ≡ stored c xs
     summary-taken s xs e =
-        summary-off (c .key) (c .history) s xs (subst Ascending e (u .ok .aged i .ascends))
+        summary-off (c .card .key) (c .history) s xs (subst Ascending e (u .ok .aged i .ascends))
         (λ x r. omega (arith, u .ok .aged i .old x (rw e r), c .now)) (subst Even e (u .even i))
-        (subst (Alike (agreeUnder (c .key)) (c .history)) e (u .like i))
+        (subst (Alike (agreeUnder (c .card .key)) (c .history)) e (u .like i))
 
     -- the first start is ripe
     visit-taken : Taken met i → Midway i (visiting i l) (visited (round c) i w)
@@ -149,7 +154,7 @@ module _ (c : Scene) (stages : ladder.Stages) (u : Upon c stages) where
           ripe-taken i k,
           visited,
           summary-taken s (k .tail) (k .shape),
-          summary-first (c .key) (c .history) s (k .tail),
+          summary-first (c .card .key) (c .history) s (k .tail),
           listed,
           k .ready,
           ladder.visit,
@@ -169,7 +174,7 @@ module _ (c : Scene) (stages : ladder.Stages) (u : Upon c stages) where
     visit-midway = elim (rest-view met i) [ inl k ↦ visit-kept k | inr k ↦ visit-taken k ]
 
   abbrev descending : ℕ → ladder.Walk → ladder.Walk
-  descending = ladder.descend (agreeUnder (c .key)) (c .pattern) (c .history)
+  descending = ladder.descend (cardTests (c .card)) (c .history)
 
   descend-midway : (i : ℕ) (l : ladder.Walk) (w : Walk) → i ≤ top c → Midway i l w → Midway 0 (descending i l) (descended (round c) i w)
   unfolding ladder.descend descended
@@ -178,10 +183,10 @@ module _ (c : Scene) (stages : ladder.Stages) (u : Upon c stages) where
 
   -- A watch that stores the summaries of the stages before the byte stores those after it, and answers as the ladder does.
   module _
-      (long : 1 ≤ length (c .pattern))
-      (before : List Stage)
-      (many : length before ≡ stageCount)
-      (each : (j : ℕ) → j < stageCount → getD before j noStage ≡ stored c (stages j))
+      (long : 1 ≤ c .card .length)
+      (before : Stages)
+      (many : Whole before)
+      (each : (j : ℕ) → j < stageCount → stageAt before j ≡ stored c (stages j))
     where
       abbrev begin : ladder.Walk
       begin = record { stages = stages; answer = record { ring = none; aside = []; comparisons = 0 } }
@@ -198,7 +203,7 @@ module _ (c : Scene) (stages : ladder.Stages) (u : Upon c stages) where
           }
 
       pub step-follows :
-          Follows c (top c) (ladder.step (agreeUnder (c .key)) (c .pattern) (c .history) stages)
+          Follows c (top c) (ladder.step (cardTests (c .card)) (c .history) stages)
           (tried (round c) 0 (mark c (c .t)) (descended (round c) (top c) begins))
       unfolding ladder.step
       step-follows =
@@ -206,7 +211,7 @@ module _ (c : Scene) (stages : ladder.Stages) (u : Upon c stages) where
           descend-midway (top c) begin begins (omega arith) begin-midway
           in
           let last : length (c .history) - 1 ≡ c .t = omega (arith, c .now) in
-          let now : c .t + size c 0 ≡ suc (c .t) = omega (arith, first-length (length (c .pattern)) long) in
+          let now : c .t + size c 0 ≡ suc (c .t) = omega (arith, first-length (c .card .length) long) in
           let older : (x : ℕ) → Has (descending (top c) begin .stages 0) x → x ≤ c .t =
           λ x r. omega (arith, u .ok .aged 0 .old x (rest-has met 0 x (rw (q .here) at r) .0))
           in

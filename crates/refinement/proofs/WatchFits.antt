@@ -1,7 +1,7 @@
--- The watch of a history is no misfit, and that of no bytes is the fresh one.
+-- The watch of a history over a card that is no misfit is none, and that of no bytes is the fresh one.
 -- Assumes nothing.
-use Prim.Native.Nat.{ℕ, suc, _≤_, _<_}
-use mathlib.Core.Path.{_≡_, refl, _∙_}
+use Prim.Native.Nat.{ℕ, suc, _<_}
+use mathlib.Core.Path.{_≡_, refl, sym, _∙_}
 use mathlib.Core.Logic.{inl, inr}
 use mathlib.Core.Bool.{true}
 use mathlib.Core.List.{List, [], _∷_}
@@ -10,7 +10,7 @@ use native.Mathlib.Omega.{arith}
 use lib.Pow.{pow-mono}
 use lib.ListN.{length, take}
 use Rattle.fingerprint.specs.declared.Key.{Key}
-use Rattle.fingerprint.specs.Fingerprint.{keyFits, extended}
+use Rattle.fingerprint.specs.Fingerprint.{extended}
 use Rattle.fingerprint.proofs.Laws.{fp-below}
 use Rattle.ladder.specs.Prefix.{levels, prefixLength}
 use Rattle.ladder.proofs.Levels.{levels-reach}
@@ -19,15 +19,15 @@ use Rattle.ladder.proofs.Starts.{has-last}
 use Rattle.ladder.proofs.Aged.{Aged}
 use Rattle.ladder.proofs.Stages.{after-staged}
 use Rattle.ladder.proofs.Even.{Even, even-last, after-even}
-use Rattle.lists.specs.Lists.{tabulate}
-use Rattle.lists.proofs.Laws.{getD-tabulate}
-use Rattle.signature.specs.Signature.{maxLength, signatureFits, signatureOf}
-use Rattle.matcher.specs.Matcher.{stageCount, noStage, matcherFits, freshRefusal, blank, fresh}
-use Rattle.lists.specs.Lists.{Bytes}
-use Rattle.refinement.specs.Refinement.{agreeUnder, summary, watchOf}
-use Rattle.matcher.proofs.Fit.{Fit, idle, single, several}
+use Rattle.signature.specs.declared.Signature.{Signature}
+use Rattle.signature.specs.Signature.{signatureFits}
+use Rattle.stage.specs.Stages.{noStages}
+use Rattle.stage.proofs.Stages.{stages-same, whole-none, no-stage-at, whole-of, stage-of}
+use Rattle.matcher.specs.Matcher.{matcherFits, freshRefusal, blank, fresh}
+use Rattle.refinement.specs.Refinement.{cardTests, summary, watchOf}
+use Rattle.stage.proofs.Fit.{Fit, idle, single, several}
 use Rattle.matcher.proofs.Sound.{sound-fits}
-use Rattle.signature.proofs.Card.{sound-card, card-fits}
+use Rattle.signature.proofs.Card.{SoundCard, sound-card}
 
 -- only below k are the tested beginnings of stages i and i + 1 of different length
 rises-below : (m i : ℕ) → prefixLength m i < prefixLength m (suc i) → i < levels m
@@ -68,58 +68,36 @@ summary-fit key h m i t (x ∷ y ∷ more) a e =
     })
 
 -- Before any byte: "a fresh one has t = 0, F_t = 0 and nothing listed".
-pub start : (key : Key) (p : List ℕ) → blank (signatureOf key p) ≡ watchOf key p []
-unfolding watchOf tabulate summary ladder.after extended
-start key p = refl
+start : (card : Signature) → blank card ≡ watchOf card []
+unfolding watchOf summary ladder.after extended
+start card =
+    let stages : noStages ≡ watchOf card [] .stages =
+    stages-same noStages _ whole-none (whole-of _) (λ i l. no-stage-at i ∙ sym (stage-of _ i l))
+    in
+    λ j. record { signature = card; now = watchOf card [] .now; stages = stages j }
 
--- The card of any list of numbers, bytes or not, if it is no misfit.
-module _ (key : Key) (p : List ℕ) (card : signatureFits (signatureOf key p) ≡ true) where
-  pub card-long : 1 ≤ length p
-  unfolding signatureOf
-  card-long = sound-card (signatureOf key p) card .long
+module _ (card : Signature) (card-fits : signatureFits card ≡ true) where
+  sound : SoundCard card
+  sound = sound-card card card-fits
 
-  pub card-short : length p ≤ maxLength
-  unfolding signatureOf
-  card-short = sound-card (signatureOf key p) card .short
-
-  pub card-watch-fits : (h : List ℕ) → matcherFits (watchOf key p h) ≡ true
-  unfolding watchOf signatureOf extended
-  card-watch-fits h =
-      sound-fits (watchOf key p h) (record {
-        card = card;
-        long = card-long;
-        short = card-short;
-        print = fp-below key (take (length h) h);
+  pub fits : (h : List ℕ) → matcherFits (watchOf card h) ≡ true
+  unfolding watchOf extended
+  fits h =
+      sound-fits (watchOf card h) (record {
+        card = card-fits;
+        print = fp-below (card .key) (take (length h) h);
         starts = λ z. rw z;
         stage =
             λ i l.
-            rw (getD-tabulate (λ i. summary key h (ladder.after (agreeUnder key) p h (length h) i)) stageCount i noStage l)
-            (summary-fit key h (length p) i (length h) _
-            (after-staged (agreeUnder key) p h card-long (length h) (omega arith) .aged i)
-            (after-even (agreeUnder key) p h card-long (length h) (omega arith) i));
+            rw (stage-of (λ i. summary (card .key) h (ladder.after (cardTests card) h (length h) i)) i l)
+            (summary-fit (card .key) h (card .length) i (length h) _
+            (after-staged (cardTests card) h (sound .long) (length h) (omega arith) .aged i)
+            (after-even (cardTests card) h (sound .long) (length h) (omega arith) i));
       })
 
-  pub card-accepted : freshRefusal (signatureOf key p) ≡ 0
-  card-accepted = rw card
+  pub fresh-accepted : freshRefusal card ≡ 0
+  fresh-accepted = rw card-fits
 
-  pub card-start : fresh (signatureOf key p) ≡ watchOf key p []
+  pub fresh-start : fresh card ≡ watchOf card []
   unfolding fresh
-  card-start = rw (card-accepted, fresh) (start key p)
-
--- The card of a pattern of bytes.
-module _
-    (key : Key)
-    (p : List ℕ)
-    (key-fits : keyFits key ≡ true)
-    (long : 1 ≤ length p)
-    (short : length p ≤ maxLength)
-    (pattern : Bytes p)
-  where
-    pub fits : (h : List ℕ) → matcherFits (watchOf key p h) ≡ true
-    fits = card-watch-fits key p (card-fits key p long short key-fits pattern)
-
-    pub fresh-accepted : freshRefusal (signatureOf key p) ≡ 0
-    fresh-accepted = card-accepted key p (card-fits key p long short key-fits pattern)
-
-    pub fresh-start : fresh (signatureOf key p) ≡ watchOf key p []
-    fresh-start = card-start key p (card-fits key p long short key-fits pattern)
+  fresh-start = rw (fresh-accepted, fresh) (start card)

@@ -1,30 +1,24 @@
 -- What a watch stores of a history, and how its answers read as those of the ladder with unlimited lists.
-use Prim.Native.Nat.{ℕ, suc, _+_, _-_, _<_}
+use Prim.Native.Nat.{ℕ, suc, _+_, _-_}
 use mathlib.Core.Path.{_≡_}
-use mathlib.Core.Bool.{Bool}
 use mathlib.Core.List.{List, [], _∷_, _++_, map}
 use mathlib.Core.Option.{Option, none, some}
-use lib.ListN.{length, take}
+use lib.ListN.{length, take, getD}
 use Rattle.fingerprint.specs.declared.Key.{Key}
-use Rattle.fingerprint.specs.Fingerprint.{same, fp}
+use Rattle.fingerprint.specs.Fingerprint.{same, empty, fp, agreeUnder}
 use Rattle.ladder.specs.Prefix.{block}
 use Rattle.ladder.specs.Ladder as ladder
-use Rattle.lists.specs.Lists.{tabulate}
 use Rattle.signature.specs.declared.Signature.{Signature}
-use Rattle.signature.specs.Signature.{signatureOf}
-use Rattle.matcher.specs.declared.Mark.{Mark}
-use Rattle.matcher.specs.declared.Stage.{Stage}
+use Rattle.stage.specs.declared.Mark.{Mark}
+use Rattle.stage.specs.declared.Stage.{Stage}
 use Rattle.matcher.specs.declared.Matcher.{Matcher}
 use Rattle.matcher.specs.declared.Ring.{Ring}
 use Rattle.matcher.specs.declared.Ring.the-variants.{Silent, At}
-use Rattle.matcher.specs.declared.Progression.{Progression}
+use Rattle.stage.specs.declared.Progression.{Progression}
 use Rattle.matcher.specs.declared.Answer.{Answer}
-use Rattle.matcher.specs.Matcher.{maxTaken, stageCount, noStage, freshRefusal, fresh}
-use Rattle.matcher.specs.Stroke.{alone, strokeRefusal, strokeAnswer, afterStroke}
-
--- The ladder's test of two blocks: whether their fingerprints under the key are equal.
-abbrev pub agreeUnder : Key → List ℕ → List ℕ → Bool
-agreeUnder key u v = same (fp key u) (fp key v)
+use Rattle.stage.specs.Stages.{stagesOf}
+use Rattle.stage.specs.Stage.{noStage, alone}
+use Rattle.matcher.specs.Stroke.{strokeRefusal, strokeAnswer, afterStroke}
 
 -- A place in a history, with the fingerprint of the bytes before it.
 abbrev pub markIn : Key → List ℕ → ℕ → Mark
@@ -42,13 +36,27 @@ summary key h (x ∷ y ∷ more) =
       step = record { length = y - x; print = fp key (block h x (y - x)) };
     }
 
--- The watch over the pattern p that has taken the bytes h: its card, t with F_t, and what the ladder's stages list.
-unfoldable pub watchOf : Key → List ℕ → List ℕ → Matcher
-watchOf key p h =
+-- The tests of a passage: blocks are compared with its beginnings, and with each other, by fingerprint under the key.
+abbrev pub passageTests : Key → List ℕ → ladder.Tests
+passageTests key p = ladder.testsOf (agreeUnder key) p
+
+-- The tests of a card: "The card holds m, r and the k + 1 fingerprints", so a block of |P_i| bytes matches P_i where its fingerprint under
+-- r is the card's i-th, and two blocks of one length are alike where their fingerprints are equal.
+abbrev pub cardTests : Signature → ladder.Tests
+cardTests card =
     record {
-      signature = signatureOf key p;
-      now = markIn key h (length h);
-      stages = tabulate (λ i. summary key h (ladder.after (agreeUnder key) p h (length h) i)) stageCount;
+      length = card .length;
+      matches = λ i bytes. same (fp (card .key) bytes) (getD (card .prints) i empty);
+      alike = agreeUnder (card .key);
+    }
+
+-- The watch over a card that has taken the bytes h: the card, t with F_t, and what the stages of the ladder with the card's tests list.
+unfoldable pub watchOf : Signature → List ℕ → Matcher
+watchOf card h =
+    record {
+      signature = card;
+      now = markIn (card .key) h (length h);
+      stages = stagesOf (λ i. summary (card .key) h (ladder.after (cardTests card) h (length h) i));
     }
 
 -- "Whether a start rang, and which": document 01's value for every case.
@@ -64,18 +72,10 @@ abbrev pub readAnswer : Answer → ladder.Answer
 readAnswer a =
     record { ring = readRing (a .ring); aside = map readSet (take (a .asides) (a .sets)); comparisons = a .comparisons }
 
--- The byte b behind the history h: the watch takes it, becomes the watch of the longer history, and answers as the ladder with unlimited
--- lists does.
-pub record Refines (key : Key) (p h : List ℕ) (b : ℕ) : Type 0 where
-  pub accepted : strokeRefusal (watchOf key p h) ≡ 0
-  pub watch : afterStroke (watchOf key p h) b ≡ watchOf key p (h ++ b ∷ [])
-  pub answer :
-      readAnswer (strokeAnswer (watchOf key p h) b) ≡ ladder.answerAt (agreeUnder key) p (h ++ b ∷ []) (length h + 1)
-
--- The card s, made from bytes or not, is that of the numbers p: it is accepted, its fresh watch is that of no bytes, and at every byte of
--- every history the watch answers as the ladder with unlimited lists over p does.
-pub record AsLadder (s : Signature) (p : List ℕ) : Type 0 where
-  pub card : s ≡ signatureOf (s .key) p
-  pub accepted : freshRefusal s ≡ 0
-  pub fresh-watch : fresh s ≡ watchOf (s .key) p []
-  pub byte : (h : List ℕ) (b : ℕ) → length h < maxTaken → Refines (s .key) p h b
+-- The byte b behind the history h: the watch over the card takes it, becomes the watch of the longer history, and answers as the ladder
+-- with unlimited lists and these tests does: the card's own (`cardTests`) for every card that is no misfit, and for a card made from a
+-- passage the passage's (`passageTests`) too.
+pub record Refines (card : Signature) (tests : ladder.Tests) (h : List ℕ) (b : ℕ) : Type 0 where
+  pub accepted : strokeRefusal (watchOf card h) ≡ 0
+  pub watch : afterStroke (watchOf card h) b ≡ watchOf card (h ++ b ∷ [])
+  pub answer : readAnswer (strokeAnswer (watchOf card h) b) ≡ ladder.answerAt tests (h ++ b ∷ []) (length h + 1)

@@ -1,10 +1,9 @@
 -- The turns of `pass`: the lines of the bytes taken were written, piece by piece, and counted.
 -- Assumes nothing.
-use Prim.Native.Nat.{ℕ, _+_, _-_, _*_, _≤_, _<_}
+use Prim.Native.Nat.{ℕ, _+_, _-_, _≤_, _<_}
 use mathlib.Core.Path.{_≡_, refl, sym, _∙_, ap}
 use mathlib.Core.Bool.{true, cond}
 use mathlib.Core.List.{List, [], _++_, append-nil}
-use native.Mathlib.Nat.{lt-of-not-le}
 use native.Mathlib.Decide.{decLt}
 use native.Mathlib.Omega.{arith}
 use lib.Dec.{eqb}
@@ -55,11 +54,14 @@ module _ (p₀ : Progress) (before : ℕ) (chunk : List ℕ) (p : Progress) (nex
   used-within = omega (arith, f .used, simp length-append at (ap length (f .buffer)))
 
   pub taken-within : next + r .taken ≤ length chunk
-  taken-within = omega (arith, f .taken, ap (λ h. h .taken) fed-here, heard-within (roomIn (length entry)) 0 p (drop next chunk), length-drop next chunk)
+  taken-within =
+      let within = heard-within (roomIn (length entry)) 0 p (drop next chunk) in
+      omega (arith, f .taken, ap (λ h. h .taken) fed-here, within, length-drop next chunk)
 
   pub moves : number (r .verdict) ≡ 0 → next < next + r .taken
   moves z =
-      let some = heard-moves (roomIn (length entry)) 0 p (drop next chunk) roomy (rw length-drop (omega arith)) (ap (λ h. h .refusal) (sym fed-here) ∙ sym (f .verdict) ∙ z) in
+      let none = ap (λ h. h .refusal) (sym fed-here) ∙ sym (f .verdict) ∙ z in
+      let some = heard-moves (roomIn (length entry)) 0 p (drop next chunk) roomy (rw length-drop (omega arith)) none in
       omega (arith, f .taken, ap (λ h. h .taken) fed-here)
 
   -- t has risen by the bytes taken

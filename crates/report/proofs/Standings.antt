@@ -1,30 +1,31 @@
 -- Where a run stands: at its begin, behind each chunk, and at its end, what was written is the output of what was read.
 -- Assumes nothing.
-use Prim.Native.Nat.{ℕ, _+_, _-_, _*_, _^_, _≤_, _<_}
-use mathlib.Core.Path.{_≡_, refl, sym, _∙_, ap}
+use Prim.Native.Nat.{ℕ, _+_, _-_, _*_, _≤_, _<_}
+use mathlib.Core.Path.{_≡_, refl, sym, _∙_}
 use mathlib.Core.Logic.{inl, inr}
-use mathlib.Core.Bool.{true, cond}
+use mathlib.Core.Bool.{true}
 use mathlib.Core.List.{List, [], _++_}
 use native.Mathlib.Omega.{arith}
 use lib.Dec.{ltb}
-use lib.ListN.{length, take, drop, length-drop}
+use lib.ListN.{length, take, drop}
 use lib.Seq.{length-take-le}
 use borrow.Author.Tests.{ltb-false}
 use Rattle.refusal.specs.Number.{number}
 use Rattle.lists.proofs.Cases.{by-test}
+use Rattle.stage.specs.Stage.{maxTaken}
 use Rattle.report_core.specs.declared.Progress.{Progress}
 use Rattle.report_core.specs.declared.Begun.{Begun}
 use Rattle.report_core.specs.Output.{cardBytes, output}
-use Rattle.report_core.specs.Progress.{heardWhile, heard}
+use Rattle.report_core.specs.Progress.{heardWhile}
 use Rattle.report_core.specs.Calls.{Begins}
-use Rattle.report_core.specs.Sent.{Sent, Whole, Partly}
+use Rattle.report_core.specs.Sent.{Sent, Partly}
 use Rattle.report_core.proofs.Hearing.{heard-later}
 use Rattle.report_core.proofs.Sending.{heard-all, sent-refused, sent-first, sent-more, sent-over, sent-partly}
 use Rattle.report.specs.declared.Status.{Status}
 use Rattle.report.specs.declared.Status.the-variants.{More, Ended, Unreadable, Unwritable}
 use Rattle.report.specs.declared.State.{State}
 use Rattle.report.specs.declared.Outcome.{Outcome}
-use Rattle.report.specs.State.{bufferSize, Sound, Took, Passed, behindFront, Ready, Goes, on, over, Turned, Standing, Stands, Closed, Over}
+use Rattle.report.specs.State.{bufferSize, Took, Passed, behindFront, Ready, Goes, on, over, Turned, Standing, Stands, Closed, Over}
 use Rattle.report.specs.State as state
 
 -- a run's count and state, put in other words
@@ -46,7 +47,8 @@ module _ (chunk : List ℕ) (b : Begun) (q : Begins chunk b) where
   opened-refused n = state.ended refl (omega arith) (sent-refused chunk b q n)
 
   -- the card is read, and what stands behind it was passed
-  module _ (accepted : number (b .verdict) ≡ 0) (short : length chunk ≤ cardBytes) (status : Status) (e : status ≡ behindFront (length chunk)) (r : State) where
+  module _ (accepted : number (b .verdict) ≡ 0) (short : length chunk ≤ cardBytes)
+      (status : Status) (e : status ≡ behindFront (length chunk)) (r : State) where
     abbrev first : State
     first = record { progress = b .progress; verdict = b .verdict; read = length chunk; written = 0; status = status }
 
@@ -68,7 +70,7 @@ module _ (chunk : List ℕ) (b : Begun) (q : Begins chunk b) where
 
 -- how far the end can be: t has a limit
 pub distance : Status → ℕ → ℕ
-distance More t = 2 ^ 32 - t
+distance More t = maxTaken + 1 - t
 distance Ended t = 0
 distance Unreadable t = 0
 distance Unwritable t = 0
@@ -105,7 +107,7 @@ module _ (s r : State) (input : List ℕ) (ready : Ready s) where
       go (over m u) = state.ended u (t .sound .few) sent
 
   pub nearer :
-      s .progress .matcher .now .at < 2 ^ 32
+      s .progress .matcher .now .at ≤ maxTaken
       → Turned s r input
       → distance (r .status) (r .progress .matcher .now .at) < distance More (s .progress .matcher .now .at)
   unfolding distance
@@ -130,7 +132,10 @@ closed input s r q (state.unwritten u) = state.unwritten u
 
 -- A chunk that was read: where it has no bytes, and where it was passed.
 module _ (s r : State) (input : List ℕ) (n : ℕ) (ready : Ready s) (within : n ≤ length input) where
-  pub ends : n ≡ 0 → r ≡ record { progress = s .progress; verdict = s .verdict; read = s .read + n; written = s .written; status = Ended } → Turned s r input
+  pub ends :
+      n ≡ 0
+      → r ≡ record { progress = s .progress; verdict = s .verdict; read = s .read + n; written = s .written; status = Ended }
+      → Turned s r input
   unfolding heardWhile
   ends z e =
       state.came n within (rw e)

@@ -12,8 +12,8 @@ use Rattle.fingerprint.specs.declared.Key.{Key}
 use Rattle.lists.specs.Lists.{Bytes}
 use Rattle.signature.specs.declared.Signature.{Signature}
 use Rattle.matcher.specs.declared.Matcher.{Matcher}
-use Rattle.matcher.specs.Matcher.{maxTaken}
-use Rattle.matcher.specs.Stroke.{strokeRefusal, strokeAnswer, afterStroke}
+use Rattle.stage.specs.Stage.{maxTaken}
+use Rattle.matcher.specs.Stroke.{strokeAnswer, afterStroke}
 use Rattle.record.specs.Calls.{readRefusal, readSignature, readTaken}
 use Rattle.refinement.specs.Refinement.{watchOf}
 use Rattle.whole_run.specs.History.{Taken, History, bytesOf}

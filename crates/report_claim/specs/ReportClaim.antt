@@ -6,12 +6,12 @@ use mathlib.Core.List.{List, [], _∷_, _++_}
 use lib.Dec.{leb}
 use lib.ListN.{length, take, drop}
 use Rattle.fingerprint.specs.declared.Key.{Key}
+use Rattle.fingerprint.specs.Fingerprint.{agreeUnder}
 use Rattle.ladder.specs.Claim.{Claim}
 use Rattle.matcher.specs.declared.Matcher.{Matcher}
-use Rattle.matcher.specs.Matcher.{maxTaken}
+use Rattle.stage.specs.Stage.{maxTaken}
 use Rattle.record.specs.Calls.{readSignature, readTaken}
-use Rattle.refinement.specs.Refinement.{agreeUnder}
-use Rattle.whole_run.specs.History.{Taken, History, bytesOf, answersOf}
+use Rattle.whole_run.specs.History.{History, bytesOf, answersOf}
 use Rattle.whole_run.specs.Run.{Call, Run}
 use Rattle.whole_run.specs.Strokes.{totalOf}
 use Rattle.report_lines.specs.Lines.{lineX, lineE, reportLines}

@@ -1,37 +1,26 @@
 -- What bytes bring: scan by scan as `feed` takes them, and what of it is printed and kept.
 -- Assumes nothing.
-use Prim.Native.Nat.{ℕ, suc, _+_, _*_, _≤_, _<_}
+use Prim.Native.Nat.{ℕ, suc, _+_, _≤_, _<_}
 use mathlib.Core.Path.{_≡_, refl, sym, _∙_, ap}
 use mathlib.Core.Bool.{Bool, true, false, cond}
-use mathlib.Core.List.{List, [], _∷_, _++_, append-assoc, append-nil}
+use mathlib.Core.List.{List, [], _∷_, _++_, append-assoc}
 use native.Mathlib.Nat.{add-assoc, add-zero}
 use native.Mathlib.Omega.{arith}
 use lib.Dec.{eqb}
 use lib.ListN.{length, drop}
 use borrow.Author.Tests.{eqb-true, eqb-false, leb-true, le-leb}
 use Rattle.lists.proofs.Cases.{by-test}
-use Rattle.lists.proofs.Laws.{and-left, and-right, and-both}
+use Rattle.lists.proofs.Laws.{and-right, and-both}
 use Rattle.matcher.specs.declared.Matcher.{Matcher}
 use Rattle.matcher.specs.Matcher.{matcherFits}
-use Rattle.matcher.specs.Stroke.{strokeRefusal, strokeAnswer, afterStroke}
+use Rattle.matcher.specs.Stroke.{strokeRefusal, strokeAnswer}
 use Rattle.matcher.specs.Scan.{silent, Scanned, scanned, scanOf}
 use Rattle.matcher.proofs.StrokeFits.{stroke-fits}
 use Rattle.report_lines.specs.Lines.{reportLines}
 use Rattle.report_core.specs.declared.Progress.{Progress}
 use Rattle.report_core.specs.Output.{refusedLines, transcript}
-use Rattle.report_core.specs.Progress.{
-  mostComparisons,
-  progressFits,
-  onward,
-  linesAt,
-  Heard,
-  stopped,
-  behind,
-  heardWhile,
-  heard,
-  pending,
-}
-use Rattle.report_core.proofs.Transcript.{quiet, silent-lines, taken-fits, taken-later, taken-few}
+use Rattle.report_core.specs.Progress.{progressFits, onward, linesAt, Heard, stopped, behind, heardWhile, heard, pending}
+use Rattle.report_core.proofs.Transcript.{quiet, silent-lines, taken-later, taken-few}
 
 pub heard-by :
     {g h : Heard}
@@ -191,7 +180,8 @@ module _ (roomy : ℕ → Bool) where
   heard-lines used p (byte ∷ bytes) rest =
       by-test (roomy used)
       (λ r. by-test (eqb (strokeRefusal (p .matcher)) 0)
-      (λ e. rw (r, e, transcript, append-assoc, drop-further) (ap (λ l. linesAt p byte ++ l) (heard-lines (used + length (linesAt p byte)) (onward p byte) bytes rest)))
+      (λ e. rw (r, e, transcript, append-assoc, drop-further)
+      (ap (λ l. linesAt p byte ++ l) (heard-lines (used + length (linesAt p byte)) (onward p byte) bytes rest)))
       (λ e. rw (r, e, transcript) (sym (pending-refused (strokeRefusal (p .matcher)) p (byte ∷ bytes ++ rest) e))))
       (λ r. rw r (sym (pending-on p (byte ∷ bytes ++ rest))))
 

@@ -1,22 +1,23 @@
 -- Lines that are put into a lent buffer: what the buffer holds then, where there is room, and where there is none.
 -- Assumes nothing.
-use Prim.Native.Nat.{ℕ, _+_, _*_, _≤_, _<_, _^_}
+use Prim.Native.Nat.{ℕ, _+_, _*_, _≤_, _<_}
 use mathlib.Core.Path.{_≡_, refl, sym, _∙_, ap}
 use mathlib.Core.Bool.{true, false}
-use mathlib.Core.List.{List, _++_, append-assoc, flatMap}
+use mathlib.Core.List.{List, _++_, append-assoc}
 use native.Mathlib.Nat.{lt-of-not-le}
 use native.Mathlib.Decide.{decLe}
 use native.Mathlib.Omega.{arith}
 use lib.ListN.{length, take, drop, length-append, take-append-drop}
 use lib.Seq.{drop-drop, take-at, drop-at, length-take-le}
 use borrow.Author.Tests.{le-leb, lt-leb, ne-eqb}
+use Rattle.decimal.specs.Decimal.{putLimit}
 use Rattle.report_lines.specs.declared.Put.{Put}
 use Rattle.report_lines.specs.declared.Put.the-variants.{Full, Next}
 use Rattle.refusal.specs.declared.Verdict.{Verdict}
 use Rattle.refusal.specs.declared.Verdict.the-variants.{Accepted}
 use Rattle.refusal.specs.Number.{number}
-use Rattle.report_lines.specs.Lines.{line, lineX, lineE, room, hasRoom, placed, written}
-use Rattle.report_lines.proofs.Decimal.{decimal-length}
+use Rattle.report_lines.specs.Lines.{lineX, lineE, room, hasRoom, placed, written}
+use Rattle.report_lines.proofs.Room.{refusal-length}
 use Rattle.report_core.specs.Calls.{lastLines, lastPlaced, lastWritten}
 
 -- The lines stand at their place, behind what stood in front, and what stood behind them is as it was.
@@ -49,7 +50,7 @@ module _ (entry : List ℕ) (at : ℕ) (lines : List ℕ) where
     unfolding placed
     placed-next = rw (le-leb (at + room) (length entry) r)
 
-    pub put-done : (exit : List ℕ) → exit ≡ written entry at lines → PutAt entry at lines (at + length lines) exit
+    put-done : (exit : List ℕ) → exit ≡ written entry at lines → PutAt entry at lines (at + length lines) exit
     unfolding written
     put-done exit w = laid exit (omega arith) (rw (le-leb (at + room) (length entry) r) at w)
 
@@ -58,7 +59,12 @@ module _ (entry : List ℕ) (at : ℕ) (lines : List ℕ) where
   unfolding placed
   placed-full l = rw (lt-leb (at + room) (length entry) l)
 
-  pub put-at : (exit : List ℕ) → exit ≡ written entry at lines → (end : ℕ) → Next end ≡ placed entry at lines → PutAt entry at lines end exit
+  pub put-at :
+      (exit : List ℕ)
+      → exit ≡ written entry at lines
+      → (end : ℕ)
+      → Next end ≡ placed entry at lines
+      → PutAt entry at lines end exit
   put-at exit w end p =
       elim (decLe (at + room) (length entry)) [
         | yes r ↦
@@ -75,7 +81,11 @@ module _ (entry : List ℕ) (at : ℕ) (lines : List ℕ) where
         | no r ↦ let z : _≡_ {A = ℕ} 0 1 = cc (placed-full (lt-of-not-le r)) in absurd (omega arith)
       ]
 
-  pub put-none : (exit : List ℕ) → exit ≡ written entry at lines → Full ≡ placed entry at lines → (hasRoom entry at ≡ false) × (exit ≡ entry)
+  pub put-none :
+      (exit : List ℕ)
+      → exit ≡ written entry at lines
+      → Full ≡ placed entry at lines
+      → (hasRoom entry at ≡ false) × (exit ≡ entry)
   unfolding written
   put-none exit w p =
       elim (decLe (at + room) (length entry)) [
@@ -84,7 +94,7 @@ module _ (entry : List ℕ) (at : ℕ) (lines : List ℕ) where
       ]
 
 -- more lines behind the first
-pub put-again :
+put-again :
     (entry : List ℕ) (at : ℕ) (first second : List ℕ) (n end : ℕ) (middle exit : List ℕ)
     → PutAt entry at first n middle
     → PutAt middle n second end exit
@@ -137,11 +147,6 @@ module _ (entry lines : List ℕ) where
   unfolding lastPlaced lastWritten
   last-full l = rw (lt-leb (2 * room) (length entry) l) (refl, refl)
 
--- the line of a refusal leaves the room of another
-refusal-short : (n : ℕ) → n < 2 ^ 32 → length (lineX n) ≤ room
-unfolding line flatMap
-refusal-short n h = simp length-append (omega (arith, decimal-length 9 n (omega arith)))
-
 module _ (entry : List ℕ) (r : 2 * room ≤ length entry) where
   pub last-one :
       (lines exit : List ℕ) (put : Put)
@@ -153,7 +158,7 @@ module _ (entry : List ℕ) (r : 2 * room ≤ length entry) where
 
   pub last-two :
       (n : ℕ) (second middle exit : List ℕ) (next : ℕ) (put : Put)
-      → n < 2 ^ 32
+      → n < putLimit
       → Next next ≡ placed entry 0 (lineX n)
       → middle ≡ written entry 0 (lineX n)
       → length middle ≡ length entry
@@ -162,7 +167,7 @@ module _ (entry : List ℕ) (r : 2 * room ≤ length entry) where
       → (put ≡ lastPlaced entry (lineX n ++ second)) × (exit ≡ lastWritten entry (lineX n ++ second))
   last-two n second middle exit next put h p w same q v =
       let first = put-at entry 0 (lineX n) middle w next p in
-      let left : next + room ≤ length middle = omega (arith, refusal-short n h, first .place) in
+      let left : next + room ≤ length middle = omega (arith, refusal-length n h, first .place) in
       last-put entry (lineX n ++ second) _ exit put r
       (put-again entry 0 (lineX n) second next _ middle exit first (put-done middle next second left exit v))
       (q ∙ placed-next middle next second left)

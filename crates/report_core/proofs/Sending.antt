@@ -3,11 +3,11 @@
 use Prim.Native.Nat.{ℕ, _+_, _*_, _≤_}
 use mathlib.Core.Path.{_≡_, refl, sym, _∙_, ap}
 use mathlib.Core.Logic.{_⊎_, inl, inr}
-use mathlib.Core.Bool.{true, false}
+use mathlib.Core.Bool.{true}
 use mathlib.Core.List.{List, [], _∷_, _++_, append-assoc, append-nil}
 use native.Mathlib.Omega.{arith}
 use lib.Dec.{ltb, eqb}
-use lib.ListN.{length, take, drop, drop-of-length-le, length-take, length-append}
+use lib.ListN.{length, drop, drop-of-length-le, length-take, length-append}
 use lib.Seq.{take-append-le, drop-append-le}
 use borrow.Author.Tests.{eqb-true, eqb-false, ne-eqb, le-leb, ltb-false}
 use Rattle.refusal.specs.Number.{number}
@@ -23,8 +23,8 @@ use Rattle.record.specs.Layout.{lengthField, patternLength, signatureKind, sign
 use Rattle.record.specs.Calls.{headRefusal, signatureLeast, signatureSuits, readRefusal, readSignature, readTaken}
 use Rattle.report_core.specs.declared.Begun.{Begun}
 use Rattle.report_core.specs.declared.Progress.{Progress}
-use Rattle.report_core.specs.Output.{cardBytes, front, output, transcript, refusedLines}
-use Rattle.report_core.specs.Progress.{mostComparisons, progressFits, onward, linesAt, Heard, heardWhile, heard, pending}
+use Rattle.report_core.specs.Output.{cardBytes, front, output, transcript}
+use Rattle.report_core.specs.Progress.{mostComparisons, progressFits, onward, linesAt, heardWhile, heard, pending}
 use Rattle.report_core.specs.Calls.{Begins, lastLines}
 use Rattle.report_core.specs.Sent.{Sent, Whole, Partly}
 use Rattle.report_core.proofs.Hearing.{pending-on, pending-refused, heard-lines}
@@ -83,7 +83,7 @@ module _ (s : List ℕ) where
       (λ f. absurd (omega (arith, rw (accepted-head e, f) at e)))
 
 -- t is 0 at a fresh watch
-pub fresh-origin : (s : Signature) → fresh s .now .at ≡ 0
+fresh-origin : (s : Signature) → fresh s .now .at ≡ 0
 unfolding fresh
 fresh-origin s = by-test (eqb (freshRefusal s) 0) (λ e. rw (e, fresh)) (λ e. rw (e, fresh))
 
@@ -99,8 +99,10 @@ module _ (chunk : List ℕ) (b : Begun) (q : Begins chunk b) where
   -- the progress of a card that is read is no misfit
   pub begun-fits : number (b .verdict) ≡ 0 → progressFits (b .progress) ≡ true
   begun-fits z =
+      let card = readSignature (front chunk) in
       rw (q .progress)
-      (and-both (fresh-fits (readSignature (front chunk)) (read-fits (front chunk) (sym (q .verdict) ∙ z))) (le-leb 0 (mostComparisons * fresh (readSignature (front chunk)) .now .at) (omega arith)))
+      (and-both (fresh-fits card (read-fits (front chunk) (sym (q .verdict) ∙ z)))
+      (le-leb 0 (mostComparisons * fresh card .now .at) (omega arith)))
 
   begun-output :
       (rest : List ℕ)

@@ -4,15 +4,16 @@ use mathlib.Core.Bool.{Bool, true, cond, _&&_}
 use mathlib.Core.List.{List, [], _∷_, _++_}
 use lib.ListN.{length}
 use lib.Dec.{leb, eqb}
+use Rattle.stage.specs.Stages.{stageCount}
 use Rattle.matcher.specs.Matcher.{matcherFits}
 use Rattle.matcher.specs.Stroke.{strokeRefusal, strokeAnswer, afterStroke}
 use Rattle.report_lines.specs.Lines.{reportLines, room}
 use Rattle.report_core.specs.declared.Progress.{Progress}
 use Rattle.report_core.specs.Output.{refusedLines, transcript}
 
--- No byte brings more than k + 1 comparisons, and k is at most 20.
+-- No byte brings more than k + 1 comparisons, and there are places for k stages.
 abbrev pub mostComparisons : ℕ
-mostComparisons = 21
+mostComparisons = stageCount + 1
 
 -- No misfit: the watch is none, and the total is one that the bytes taken can have.
 abbrev pub progressFits : Progress → Bool

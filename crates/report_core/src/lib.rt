@@ -20,10 +20,10 @@ use report_lines::put_report;
 pub const CARD_BYTES: usize = 98;
 
 // The most comparisons at one byte.
-pub const MOST_COMPARISONS: u64 = 21;
+const MOST_COMPARISONS: u64 = 21;
 
 // The room that a buffer must have for the last lines: they are two at the most, each with the room of one byte's lines.
-pub const LAST_ROOM: usize = 4096;
+const LAST_ROOM: usize = 2 * ROOM;
 
 // How far the program has come: the watch and all comparisons.
 pub struct Progress {

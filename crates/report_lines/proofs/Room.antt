@@ -1,6 +1,6 @@
--- The lines of one byte fit the room where every number fits 32 bits; and the place behind lines that were put into a buffer lies within it.
+-- The lines of one byte fit the room where every number is one that can be put; the place behind lines in a buffer lies within it.
 -- Assumes nothing.
-use Prim.Native.Nat.{ℕ, suc, _+_, _*_, _^_, _≤_, _<_}
+use Prim.Native.Nat.{ℕ, suc, _+_, _*_, _≤_, _<_}
 use mathlib.Core.Path.{_≡_, refl, ap}
 use mathlib.Core.List.{List, [], _∷_, flatMap}
 use native.Mathlib.Nat.{lt-of-not-le}
@@ -11,35 +11,46 @@ use lib.Seq.{getD-take}
 use borrow.Author.Tests.{le-leb, lt-leb}
 use Rattle.matcher.specs.declared.Ring.{Ring}
 use Rattle.matcher.specs.declared.Ring.the-variants.{Silent, At}
-use Rattle.matcher.specs.declared.Progression.{Progression}
+use Rattle.stage.specs.declared.Progression.{Progression}
 use Rattle.matcher.specs.declared.Answer.{Answer}
+use Rattle.stage.specs.Stages.{stageCount}
 use Rattle.report_lines.specs.declared.Put.the-variants.{Next}
-use Rattle.report_lines.specs.Lines.{item, line, lineA, ringLines, reportLines, room, placed, written}
-use Rattle.report_lines.proofs.Decimal.{decimal-length}
+use Rattle.report_lines.specs.Stored.{mostItem, mostLine}
+use Rattle.report_lines.specs.Lines.{item, line, lineA, lineX, ringLines, reportLines, room, placed, written}
+use Rattle.decimal.specs.Decimal.{putLimit}
+use Rattle.decimal.proofs.Digits.{put-length}
 
 -- what stands past the sets of an answer
 abbrev pub noSet : Progression
 noSet = record { first = 0; step = 0; many = 0 }
 
-item-length : (n : ℕ) → n < 2 ^ 32 → length (item n) ≤ 11
-item-length n h = omega (arith, decimal-length 9 n (omega arith))
+item-length : (n : ℕ) → n < putLimit → length (item n) ≤ mostItem
+item-length n h = omega (arith, put-length n h)
 
--- a set aside whose numbers fit 32 bits
+-- a set aside whose numbers can be put
 pub record NarrowSet (a : Progression) : Type 0 where
-  pub first : a .first < 2 ^ 32
-  pub step : a .step < 2 ^ 32
-  pub many : a .many < 2 ^ 32
+  pub first : a .first < putLimit
+  pub step : a .step < putLimit
+  pub many : a .many < putLimit
 
-aside-length : (t : ℕ) (a : Progression) → t < 2 ^ 32 → NarrowSet a → length (lineA t a) ≤ 46
+aside-length : (t : ℕ) (a : Progression) → t < putLimit → NarrowSet a → length (lineA t a) ≤ mostLine
 unfolding line flatMap
 aside-length t a h n =
     simp length-append
     (omega (arith, item-length t h, item-length (a .first) (n .first), item-length (a .step) (n .step), item-length (a .many) (n .many)))
 
-ring-length : (t : ℕ) (ring : Ring) → t < 2 ^ 32 → ((start : ℕ) → ring ≡ At start → start < 2 ^ 32) → length (ringLines t ring) ≤ 24
+ring-length :
+    (t : ℕ) (ring : Ring)
+    → t < putLimit
+    → ((start : ℕ) → ring ≡ At start → start < putLimit)
+    → length (ringLines t ring) ≤ mostLine
 unfolding line flatMap
 ring-length t Silent h k = omega arith
 ring-length t (At start) h k = simp length-append (omega (arith, item-length t h, item-length start (k start refl)))
+
+pub refusal-length : (n : ℕ) → n < putLimit → length (lineX n) ≤ mostLine
+unfolding line flatMap
+refusal-length n h = simp length-append (omega (arith, item-length n h))
 
 flatMap-length :
     {A : Type 0} (f : A → List ℕ) (k : ℕ) (d : A) (es : List A)
@@ -50,20 +61,20 @@ flatMap-length f k d [] h = omega arith
 flatMap-length f k d (e ∷ es) h =
     simp length-append (omega (arith, h 0 (omega arith), flatMap-length f k d es (λ i l. h (suc i) (omega arith))))
 
--- an answer as the matcher's type has it: at most twenty sets, and every number fits 32 bits
+-- an answer as the matcher's type has it: at most one set for each place of a stage, and every number can be put
 pub record Narrow (answer : Answer) : Type 0 where
-  pub ring : (start : ℕ) → answer .ring ≡ At start → start < 2 ^ 32
-  pub twenty : length (answer .sets) ≤ 20
+  pub ring : (start : ℕ) → answer .ring ≡ At start → start < putLimit
+  pub few : length (answer .sets) ≤ stageCount
   pub sets : (i : ℕ) → NarrowSet (getD (answer .sets) i noSet)
 
-pub report-fits : (t : ℕ) (answer : Answer) → t < 2 ^ 32 → Narrow answer → length (reportLines t answer) ≤ room
+pub report-fits : (t : ℕ) (answer : Answer) → t < putLimit → Narrow answer → length (reportLines t answer) ≤ room
 unfolding reportLines
 report-fits t answer h n =
     let sets = take (answer .asides) (answer .sets) in
     let count = length-take (answer .asides) (answer .sets) in
-    let each : (i : ℕ) → i < length sets → length (lineA t (getD sets i noSet)) ≤ 46 =
+    let each : (i : ℕ) → i < length sets → length (lineA t (getD sets i noSet)) ≤ mostLine =
     λ i l. rw (getD-take (answer .asides) (answer .sets) i noSet (omega arith)) (aside-length t _ h (n .sets i)) in
-    simp length-append (omega (arith, ring-length t (answer .ring) h (n .ring), flatMap-length (lineA t) 46 noSet sets each))
+    simp length-append (omega (arith, ring-length t (answer .ring) h (n .ring), flatMap-length (lineA t) mostLine noSet sets each))
 
 -- the place behind the lines that a call put into a buffer of the same length lies within the buffer
 pub next-within :

@@ -1,43 +1,37 @@
--- Runs of stores: one run behind another is the run of both, a run may begin with its last byte, and a whole run that had room leaves the buffer
--- of the public contracts.
+-- Runs of stores: one run behind another is the run of both, and a whole run that had room leaves the buffer of the public contracts.
 -- Assumes nothing.
-use Prim.Native.Nat.{ℕ, suc, _+_, _/_, _%_, _≤_, _<_}
+use Prim.Native.Nat.{ℕ, _+_, _≤_, _<_}
 use mathlib.Core.Path.{_≡_, refl, sym, _∙_, ap}
 use mathlib.Core.List.{List, [], _∷_, _++_, flatMap, append-nil, append-assoc}
-use native.Mathlib.Nat.{add-zero}
 use native.Mathlib.Numerals.{add-one}
 use native.Mathlib.Omega.{arith}
 use lib.ListN.{length, set, take, getD, length-append}
-use lib.Seq.{sets, length-sets, sets-eq, set-comm, take-suc}
+use lib.Seq.{length-sets, sets-eq, take-suc}
 use borrow.Author.Tests.{le-leb, lt-leb}
+use Rattle.lists.proofs.Stores.{sets-append}
+use Rattle.decimal.specs.Decimal.{decimal, putLimit, mostPut, placeBehind, bufferWith}
+use Rattle.decimal.proofs.Digits.{put-length}
+use Rattle.decimal.proofs.Putting.{put-room}
 use Rattle.report_lines.specs.declared.Put.the-variants.{Full, Next}
-use Rattle.report_lines.specs.Lines.{digit, decimal, room, placed, written}
+use Rattle.report_lines.specs.Lines.{room, placed, written}
 use Rattle.report_lines.specs.Stored.{Stored}
-use Rattle.report_lines.proofs.Decimal.{decimal-more}
-
-sets-append : (xs ys l : List ℕ) (i : ℕ) → sets l i (xs ++ ys) ≡ sets (sets l i xs) (i + length xs) ys
-sets-append [] ys l i = rw add-zero
-sets-append (x ∷ xs) ys l i = sets-append xs ys (set l i x) (suc i) ∙ ap (λ (k : ℕ). sets (sets l i (x ∷ xs)) k ys) (omega arith)
-
--- a byte behind the run may be stored before it
-set-past : (xs l : List ℕ) (i j b : ℕ) → i + length xs ≤ j → sets (set l j b) i xs ≡ set (sets l i xs) j b
-set-past [] l i j b h = refl
-set-past (x ∷ xs) l i j b h =
-    ap (λ (m : List ℕ). sets m (suc i) xs) (set-comm l j i b x (omega arith)) ∙ set-past xs (set l i x) (suc i) j b (omega arith)
-
-sets-last : (xs l : List ℕ) (i b : ℕ) → sets l i (xs ++ b ∷ []) ≡ sets (set l (i + length xs) b) i xs
-sets-last xs l i b = sets-append xs (b ∷ []) l i ∙ sym (set-past xs l i (i + length xs) b (omega arith))
-
--- the last digit of a number of several may be stored before the others
-pub last-digit :
-    (l : List ℕ) (at n : ℕ)
-    → 10 ≤ n
-    → sets l at (decimal n) ≡ sets (set l (at + length (decimal (n / 10))) (digit (n % 10))) at (decimal (n / 10))
-last-digit l at n h = rw (decimal-more n h) (sets-last (decimal (n / 10)) l at (digit (n % 10)))
 
 -- one byte
 pub byte : (l : List ℕ) (at b : ℕ) → Stored l at (b ∷ []) 1 (at + 1) (set l at b)
 byte l at b = record { behind = omega arith; within = omega arith; buffer = refl }
+
+-- a number's digits
+pub number :
+    {l l′ : List ℕ} {at n r : ℕ}
+    → n < putLimit
+    → at + mostPut ≤ length l
+    → r ≡ placeBehind l at n
+    → l′ ≡ bufferWith l at n
+    → Stored l at (decimal n) mostPut r l′
+number {l} {at = at} {n} h room p e =
+    let few = put-length n h in
+    let q = put-room l at n (omega arith) in
+    record { behind = p ∙ q .0; within = few; buffer = e ∙ q .1 }
 
 -- one run behind another
 pub run :

@@ -1,30 +1,18 @@
 -- The lines of the printing program, as bytes (document 01, "The printing program"), and what a lent buffer holds once they are put into it.
-use Prim.Native.Nat.{ℕ, zero, suc, _+_, _/_, _%_}
-use mathlib.Core.Bool.{Bool, true, false, cond}
+use Prim.Native.Nat.{ℕ, _+_}
+use mathlib.Core.Bool.{Bool, cond}
 use mathlib.Core.List.{List, [], _∷_, _++_, flatMap}
 use lib.ListN.{length, take, drop}
-use lib.Dec.{leb, ltb}
+use lib.Dec.{leb}
+use Rattle.decimal.specs.Decimal.{decimal}
 use Rattle.matcher.specs.declared.Ring.{Ring}
 use Rattle.matcher.specs.declared.Ring.the-variants.{Silent, At}
-use Rattle.matcher.specs.declared.Progression.{Progression}
+use Rattle.stage.specs.declared.Progression.{Progression}
 use Rattle.matcher.specs.declared.Answer.{Answer}
 use Rattle.report_lines.specs.declared.Put.{Put}
 use Rattle.report_lines.specs.declared.Put.the-variants.{Full, Next}
 
--- A digit's character: 48 is `0`.
-abbrev pub digit : ℕ → ℕ
-digit d = 48 + d
-
--- The digits of n, as long as there is fuel: the last digit stands behind those of n / 10.
-unfoldable pub digits : ℕ → ℕ → List ℕ
-digits zero n = []
-digits (suc fuel) n = elim (ltb n 10) [ true ↦ digit n ∷ [] | false ↦ digits fuel (n / 10) ++ digit (n % 10) ∷ [] ]
-
--- "Printed numbers are decimal without leading zeros": n has at most n + 1 digits.
-unfoldable pub decimal : ℕ → List ℕ
-decimal n = digits (suc n) n
-
--- "One space parts the items": 32 is the space.
+-- "Printed numbers are decimal without leading zeros", and "one space parts the items": 32 is the space.
 abbrev pub item : ℕ → List ℕ
 item n = 32 ∷ decimal n
 

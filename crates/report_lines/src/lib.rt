@@ -1,11 +1,10 @@
 // The lines of the printing program (document 01, "The printing program"), put into a lent buffer.
 ghost use mathlib.Core.Path.{_≡_};
-ghost use mathlib.Core.List.{[], _∷_};
 ghost use Prim.Native.Nat.{_+_, _≤_, min};
 ghost use lib.ListN.{length};
 ghost use lib.Dec.{leb};
+ghost use Rattle.stage.specs.Stages.{stageCount};
 ghost use Rattle.report_lines.specs.Lines.{
-  decimal,
   item,
   line,
   lineA,
@@ -17,48 +16,21 @@ ghost use Rattle.report_lines.specs.Lines.{
   placed,
   written,
 };
-ghost use Rattle.report_lines.specs.Stored.{mostDigits, mostItem, mostLine, Stored};
+ghost use Rattle.report_lines.specs.Stored.{mostItem, mostNumbers, mostLine, Stored};
 use matcher::Answer;
-use matcher::Progression;
 use matcher::Ring;
+use stage::Progression;
 
 // The room that a buffer must have from the place on, whatever is to be put there: the lines of one byte are never longer.
 pub const ROOM: usize = 2048;
+
+// The sets that an answer has places for: one for each place of a stage.
+const SETS: usize = 20;
 
 // Where the next line goes, or that the buffer has too little room and is as it was.
 pub enum Put {
     Full,
     Next(usize),
-}
-
-// How many digits a number has.
-fn digit_count(n: u64) -> usize
-    ensures { λ r. ⌜ r ≡ length (decimal n) ⌝ }
-{
-    let mut rest = n;
-    let mut count: usize = 1;
-    while rest >= 10 {
-        rest = rest / 10;
-        count = count + 1;
-    }
-    count
-}
-
-// A number's digits, stored from the last to the first.
-fn put_number(buf: &mut [u8], at: usize, n: u64) -> usize
-    requires { ⌜ at + mostDigits ≤ length (now buf) ⌝ }
-    ensures { λ r. ⌜ Stored (now (buf .entry)) at (decimal n) mostDigits r (now (buf .exit)) ⌝ }
-{
-    let end = at + digit_count(n);
-    let mut left = n;
-    let mut i = end;
-    while left >= 10 {
-        i = i - 1;
-        buf[i] = b'0' + (left % 10) as u8;
-        left = left / 10;
-    }
-    buf[at] = b'0' + left as u8;
-    end
 }
 
 // A space and a number.
@@ -67,12 +39,12 @@ fn put_item(buf: &mut [u8], at: usize, n: u64) -> usize
     ensures { λ r. ⌜ Stored (now (buf .entry)) at (item n) mostItem r (now (buf .exit)) ⌝ }
 {
     buf[at] = b' ';
-    put_number(buf, at + 1, n)
+    decimal::put(buf, at + 1, n)
 }
 
 // A line: a letter and up to four numbers.
 fn put_line(buf: &mut [u8], at: usize, letter: u8, numbers: &[u64]) -> usize
-    requires { ⌜ (at + mostLine ≤ length (now buf)) × (length (now numbers) ≤ 4) ⌝ }
+    requires { ⌜ (at + mostLine ≤ length (now buf)) × (length (now numbers) ≤ mostNumbers) ⌝ }
     ensures { λ r. ⌜ Stored (now (buf .entry)) at (line letter (now (numbers .entry))) mostLine r (now (buf .exit)) ⌝ }
 {
     buf[at] = letter;
@@ -119,14 +91,15 @@ fn has_room(size: usize, at: usize) -> bool
     at <= size - ROOM
 }
 
-// How many of twenty sets count.
+// How many sets of an answer count.
 fn counted(asides: u32) -> usize
-    ensures { λ n. ⌜ n ≡ min asides 20 ⌝ }
+    ensures { λ n. ⌜ n ≡ min asides stageCount ⌝ }
 {
-    if asides < 20 {
-        return asides as usize;
+    let n = asides as usize;
+    if n < SETS {
+        return n;
     }
-    20
+    SETS
 }
 
 // The lines of the answer to byte t, at a place of the buffer.
@@ -150,7 +123,7 @@ pub fn put_report(buf: &mut [u8], at: usize, t: u32, answer: Answer) -> Put
 
 // One line, at a place of the buffer.
 fn put_alone(buf: &mut [u8], at: usize, letter: u8, numbers: &[u64]) -> Put
-    requires { ⌜ length (now numbers) ≤ 4 ⌝ }
+    requires { ⌜ length (now numbers) ≤ mostNumbers ⌝ }
     ensures { λ r. ⌜ r ≡ placed (now (buf .entry)) at (line letter (now (numbers .entry))) ⌝ }
     ensures { λ _. ⌜ now (buf .exit) ≡ written (now (buf .entry)) at (line letter (now (numbers .entry))) ⌝ }
 {

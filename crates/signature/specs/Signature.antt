@@ -6,7 +6,7 @@ use lib.ListN.{length, getD, replicate}
 use lib.Dec.{leb, eqb}
 use Rattle.fingerprint.specs.declared.Key.{Key}
 use Rattle.fingerprint.specs.declared.Fingerprint.{Fingerprint}
-use Rattle.fingerprint.specs.Fingerprint.{keyFits, printFits, same, empty, fp}
+use Rattle.fingerprint.specs.Fingerprint.{keyFits, printFits, same, empty, isBytePrint, fp, noKey}
 use Rattle.ladder.specs.Prefix.{levels, prefixLength, prefix}
 use Rattle.lists.specs.Lists.{every, tabulate}
 use Rattle.signature.specs.declared.Signature.{Signature}
@@ -33,7 +33,7 @@ placeFits m n prints i = cond (reached m n i) (printFits (getD prints i empty)) 
 
 -- All prints after n of m bytes; the first is not "over 255".
 unfoldable pub printsFit : ℕ → ℕ → List Fingerprint → Bool
-printsFit m n prints = leb (getD prints 0 empty .value) 255 && every (placeFits m n prints) places
+printsFit m n prints = isBytePrint (getD prints 0 empty) && every (placeFits m n prints) places
 
 -- A card is no misfit: "m or r outside limits; a fingerprint not below p; a first fingerprint over 255; .. a print past P_k .. that isn't
 -- all 0". All of its m bytes were taken.
@@ -69,11 +69,11 @@ signatureOf key p =
 
 -- What stands in a result where the call is refused.
 abbrev pub noSignature : Signature
-noSignature = record { length = 0; key = record { r = 0 }; prints = replicate places empty }
+noSignature = record { length = 0; key = noKey; prints = replicate places empty }
 
 -- A half-made card with no byte taken.
 abbrev pub nothingTaken : ℕ → Key → Builder
 nothingTaken m key = record { length = m; key = key; taken = 0; print = empty; prints = replicate places empty }
 
 abbrev pub noBuilder : Builder
-noBuilder = nothingTaken 0 (record { r = 0 })
+noBuilder = nothingTaken 0 noKey

@@ -4,8 +4,8 @@ ghost use mathlib.Core.Bool.{true, cond, _&&_};
 ghost use lib.Dec.{leb, eqb};
 ghost use Rattle.fingerprint.specs.Fingerprint.{empty, same, printFits};
 ghost use Rattle.ladder.specs.Prefix.{levels, prefixLength};
-ghost use Rattle.refusal.specs.Number.{number};
-ghost use Rattle.signature.specs.Signature.{lengthFits, reached, printsFit, signatureFits, builderFits, nothingTaken, noSignature, stored};
+ghost use Rattle.refusal.specs.Number.{refusalNumber, number};
+ghost use Rattle.signature.specs.Signature.{lengthFits, reached, printsFit, signatureFits, builderFits, nothingTaken, noBuilder, noSignature, stored};
 ghost use Rattle.signature.specs.Calls.{beginRefusal, begun, pushRefusal, afterPush, finishRefusal, finished};
 use fingerprint::Fingerprint;
 use fingerprint::Key;
@@ -129,7 +129,7 @@ fn prints_fit(prints: [Fingerprint; 21], m: u32, taken: u32) -> bool
     ensures { λ ok. ⌜ ok ≡ printsFit m taken prints ⌝ }
 {
     let first = prints[0];
-    if 255 < first.value {
+    if !first.is_of_byte() {
         return false;
     }
     let k = levels(m);
@@ -195,7 +195,7 @@ impl Signature {
         let nothing = Fingerprint::empty();
         Signature {
             length: 0,
-            key: Key { r: 0 },
+            key: Key::none(),
             prints: [nothing; 21],
         }
     }
@@ -224,26 +224,28 @@ impl Builder {
         ensures builder { λ r. ⌜ r .builder ≡ begun m key ⌝ }
     {
         if m == 0 {
-            return Building {
-                verdict: Verdict::Refused(Refusal::Empty),
-                builder: Builder::blank(0, Key { r: 0 }),
-            };
+            return Builder::not_begun(Refusal::Empty);
         }
         if MAX_LENGTH < m {
-            return Building {
-                verdict: Verdict::Refused(Refusal::Overlong),
-                builder: Builder::blank(0, Key { r: 0 }),
-            };
+            return Builder::not_begun(Refusal::Overlong);
         }
         if !key.fits() {
-            return Building {
-                verdict: Verdict::Refused(Refusal::Key),
-                builder: Builder::blank(0, Key { r: 0 }),
-            };
+            return Builder::not_begun(Refusal::Key);
         }
         Building {
             verdict: Verdict::Accepted,
             builder: Builder::blank(m, key),
+        }
+    }
+
+    // What a refused beginning hands back: the all-0 half-made card.
+    fn not_begun(refusal: Refusal) -> Building
+        ensures { λ r. ⌜ (number (r .verdict) ≡ refusalNumber refusal) × (r .builder ≡ noBuilder) ⌝ }
+    {
+        let nothing = Key::none();
+        Building {
+            verdict: Verdict::Refused(refusal),
+            builder: Builder::blank(0, nothing),
         }
     }
 

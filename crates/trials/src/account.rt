@@ -7,9 +7,9 @@ use crate::tally::add;
 use crate::tally::expect;
 use crate::tally::mix;
 use matcher::Answer;
-use matcher::Progression;
 use matcher::Ring;
 use naive_search::stages;
+use stage::Progression;
 
 // A place of the answer's list of sets: a set if it counts, else nothing.
 fn account_set(

@@ -2,11 +2,27 @@
 use crate::bytes::front;
 use crate::bytes::short;
 use crate::tally::expect;
+use fingerprint::Fingerprint;
 use fingerprint::Key;
 use naive_search::print_of;
 use refusal::Verdict;
 use signature::Builder;
 use signature::Signature;
+
+// A number as a key.
+pub(crate) fn key_of(number: u32) -> Key {
+    Key { r: number }
+}
+
+// A key's number.
+pub(crate) fn key_number(key: Key) -> u32 {
+    key.r
+}
+
+// A print's number.
+pub(crate) fn print_number(print: Fingerprint) -> u32 {
+    print.value
+}
 
 // Whether a call was accepted.
 pub(crate) fn accepted(verdict: Verdict) -> bool {
@@ -15,7 +31,7 @@ pub(crate) fn accepted(verdict: Verdict) -> bool {
 
 // The card of a pattern, by the maker's calls, none of which is refused.
 pub(crate) fn make(pattern: &[u8], key: u32, tally: &mut [u32]) -> Signature {
-    let begun = Builder::begin(short(pattern.len()), Key { r: key });
+    let begun = Builder::begin(short(pattern.len()), key_of(key));
     let verdict = begun.verdict;
     expect(tally, accepted(verdict));
     let mut builder = begun.builder;
@@ -47,12 +63,12 @@ fn next_size(size: usize, m: usize) -> usize {
 // Whether a card has the pattern's length, the key and the fingerprints of its prefixes, and 0 past them.
 pub(crate) fn is_card_of(signature: Signature, pattern: &[u8], key: u32) -> bool {
     let prints = signature.prints;
-    let mut same = signature.length == short(pattern.len()) && signature.key.r == key;
+    let mut same = signature.length == short(pattern.len()) && key_number(signature.key) == key;
     let mut size: usize = 1;
     let mut i: usize = 0;
     while i < 21 {
         let print = prints[i];
-        same = same && print.value == print_of(front(pattern, size), key);
+        same = same && print_number(print) == print_of(front(pattern, size), key);
         size = next_size(size, pattern.len());
         i = i + 1;
     }

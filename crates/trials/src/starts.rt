@@ -11,10 +11,10 @@ use crate::tally::RINGS;
 use crate::tally::SETS;
 use crate::tally::add;
 use crate::tally::expect;
-use matcher::Progression;
 use naive_search::collides;
 use naive_search::occurs;
 use naive_search::print_of;
+use stage::Progression;
 
 // What a start is marked with once it is reported; 0 before.
 const RUNG: u8 = 1;

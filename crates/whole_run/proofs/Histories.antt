@@ -10,15 +10,15 @@ use lib.Seq.{getD-at}
 use Rattle.fingerprint.specs.declared.Key.{Key}
 use Rattle.ladder.specs.Ladder as ladder
 use Rattle.ladder.proofs.Grow.{answer-append}
-use Rattle.matcher.specs.Matcher.{maxTaken}
-use Rattle.refinement.specs.Refinement.{agreeUnder, readAnswer}
+use Rattle.stage.specs.Stage.{maxTaken}
+use Rattle.refinement.specs.Refinement.{passageTests, readAnswer}
 use Rattle.whole_run.specs.History.{Taken, History, bytesOf, answersOf}
 
 -- It has no more bytes than a watch takes, and its answer at each byte is the ladder's.
 pub record Faithful (key : Key) (p : List ℕ) (h : History) : Type 0 where
   pub within : length (bytesOf h) ≤ maxTaken
   pub answers :
-      (n : ℕ) → 1 ≤ n → n ≤ length h → answersOf h n ≡ ladder.answerAt (agreeUnder key) p (bytesOf h) n
+      (n : ℕ) → 1 ≤ n → n ≤ length h → answersOf h n ≡ ladder.answerAt (passageTests key p) (bytesOf h) n
 
 -- a byte for each entry
 pub length-bytes : (h : History) → length (bytesOf h) ≡ length h
@@ -35,7 +35,7 @@ module _
     (p : List ℕ)
     (h : History)
     (x : Taken)
-    (answer : readAnswer (x .answer) ≡ ladder.answerAt (agreeUnder key) p (bytesOf h ++ x .byte ∷ []) (length (bytesOf h) + 1))
+    (answer : readAnswer (x .answer) ≡ ladder.answerAt (passageTests key p) (bytesOf h ++ x .byte ∷ []) (length (bytesOf h) + 1))
     (faithful : Faithful key p h)
   where
     length-more : length (h ++ x ∷ []) ≡ suc (length h)
@@ -45,17 +45,17 @@ module _
         (n : ℕ)
         → 1 ≤ n
         → n ≤ length (h ++ x ∷ [])
-        → answersOf (h ++ x ∷ []) n ≡ ladder.answerAt (agreeUnder key) p (bytesOf h ++ x .byte ∷ []) n
+        → answersOf (h ++ x ∷ []) n ≡ ladder.answerAt (passageTests key p) (bytesOf h ++ x .byte ∷ []) n
     answers-more zero low high = absurd (omega arith)
     answers-more (suc n) low high =
         elim (decLe (suc n) (length h)) [
           | yes l ↦
               rw List·getD-append
               (faithful .answers (suc n) low l
-              ∙ sym (answer-append (agreeUnder key) p (bytesOf h) (x .byte ∷ []) (suc n) (omega (arith, length-bytes h))))
+              ∙ sym (answer-append (passageTests key p) (bytesOf h) (x .byte ∷ []) (suc n) (omega (arith, length-bytes h))))
           | no l ↦
               let last : length h ≡ n = omega (arith, length-more) in
-              rw (getD-at h x [] _ n last) (answer ∙ ap (ladder.answerAt (agreeUnder key) p _) (omega (arith, length-bytes h)))
+              rw (getD-at h x [] _ n last) (answer ∙ ap (ladder.answerAt (passageTests key p) _) (omega (arith, length-bytes h)))
         ]
 
     pub faithful-more : length (bytesOf h) < maxTaken → Faithful key p (h ++ x ∷ [])

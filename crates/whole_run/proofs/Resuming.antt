@@ -10,7 +10,8 @@ use borrow.Author.Tests.{le-ltb}
 use Rattle.fingerprint.specs.declared.Key.{Key}
 use Rattle.signature.specs.declared.Signature.{Signature}
 use Rattle.matcher.specs.declared.Matcher.{Matcher}
-use Rattle.matcher.specs.Matcher.{maxTaken, matcherFits, freshRefusal}
+use Rattle.stage.specs.Stage.{maxTaken}
+use Rattle.matcher.specs.Matcher.{matcherFits, freshRefusal}
 use Rattle.matcher.specs.Stroke.{strokeRefusal}
 use Rattle.record.specs.Layout.{checkpointRecord}
 use Rattle.record.specs.Calls.{saveRefusal, saveUsed, saveBuffer, behindRefusal, behindBuffer, restoreRefusal, restoredMatcher}
@@ -33,7 +34,7 @@ module _ {key : Key} {p : List ℕ} {card : Signature} (c : CardOf key p card) w
       resumed c (bytesOf h) (r .faithful .within) buffer (rw (r .written) at b) .0
 
   module _ {calls : List Call} {w : Matcher} {h : History} (run : Run card calls w h) where
-    tracks : Tracks key p w h
+    tracks : Tracks key p card w h
     tracks = run-tracks c run
 
     -- A parking is refused for want of space alone.

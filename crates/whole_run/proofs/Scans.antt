@@ -1,26 +1,22 @@
 -- A scan is a list of strokes: it ends where the strokes of the bytes that it took end, and demand 3 holds of it as of them.
 -- Assumes nothing.
 use Prim.Native.Nat.{ℕ, suc, _+_}
-use mathlib.Core.Path.{_≡_, refl, sym, _∙_, ap}
+use mathlib.Core.Path.{_≡_, refl, ap}
 use mathlib.Core.Bool.{cond}
 use mathlib.Core.List.{List, [], _∷_, _++_, append-nil, append-assoc}
 use native.Mathlib.Omega.{arith}
 use borrow.Author.Tests.{eqb-true}
 use lib.Dec.{eqb}
-use lib.ListN.{length, getD, take}
-use Rattle.fingerprint.specs.declared.Key.{Key}
-use Rattle.ladder.specs.Claim.{Claim}
+use lib.ListN.{take}
 use Rattle.lists.specs.Lists.{Bytes}
 use Rattle.lists.proofs.Cases.{by-test}
 use Rattle.signature.specs.declared.Signature.{Signature}
 use Rattle.matcher.specs.declared.Matcher.{Matcher}
 use Rattle.matcher.specs.Stroke.{strokeRefusal, strokeAnswer, afterStroke}
 use Rattle.matcher.specs.Scan.{silent, scanned}
-use Rattle.refinement.specs.Refinement.{agreeUnder}
-use Rattle.whole_run.specs.History.{Taken, History, bytesOf, answersOf}
-use Rattle.whole_run.specs.Run.{CardOf, Call, core, stroke, Run, takes}
+use Rattle.whole_run.specs.History.{History}
+use Rattle.whole_run.specs.Run.{Call, core, stroke, Run, takes}
 use Rattle.whole_run.specs.Strokes.{strokes, struck, reportsOf, totalOf}
-use Rattle.whole_run.proofs.Theorem.{whole-run}
 
 module _ (card : Signature) where
   -- Where a list that stood at w, with history h, stands once bytes were struck.
@@ -53,9 +49,11 @@ module _ (card : Signature) where
   scan-run calls w h [] all run = none-struck calls w h run
   scan-run calls w h (byte ∷ bytes) all run =
       by-test (eqb (strokeRefusal w) 0)
-      (λ e. let next = takes core byte (all 0 (omega arith)) run (eqb-true _ _ e) in
+      (λ e.
+      let next = takes core byte (all 0 (omega arith)) run (eqb-true _ _ e) in
+      let later = scan-run _ (afterStroke w byte) _ bytes (λ i l. all (suc i) (omega arith)) next in
       by-test (silent (strokeAnswer w byte))
-      (λ f. rw (e, f) (one-more calls w h byte (take (scanned (afterStroke w byte) bytes .taken) bytes) _ (scan-run _ (afterStroke w byte) _ bytes (λ i l. all (suc i) (omega arith)) next)))
+      (λ f. rw (e, f) (one-more calls w h byte (take (scanned (afterStroke w byte) bytes .taken) bytes) _ later))
       (λ f. rw (e, f) (one-more calls w h byte [] _ (none-struck _ (afterStroke w byte) _ next))))
       (λ e. rw e (none-struck calls w h run))
 

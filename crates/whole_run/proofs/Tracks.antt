@@ -2,7 +2,7 @@
 -- wrote is that of such a watch.
 -- Assumes nothing.
 use Prim.Native.Nat.{ℕ, _≤_, _<_}
-use mathlib.Core.Path.{_≡_, _∙_, ap}
+use mathlib.Core.Path.{_≡_}
 use mathlib.Core.Bool.{true}
 use mathlib.Core.List.{List, [], _∷_, _++_}
 use native.Mathlib.Decide.{decLt}
@@ -10,15 +10,16 @@ use native.Mathlib.Omega.{arith}
 use lib.ListN.{length, take, drop}
 use borrow.Author.Tests.{ne-eqb}
 use Rattle.fingerprint.specs.declared.Key.{Key}
-use Rattle.lists.proofs.Laws.{length-tabulate}
 use Rattle.signature.specs.declared.Signature.{Signature}
 use Rattle.made_from.specs.MadeFrom.{MadeSignature}
 use Rattle.matcher.specs.declared.Matcher.{Matcher}
-use Rattle.matcher.specs.Matcher.{maxTaken, stageCount, matcherFits, fresh}
+use Rattle.stage.specs.Stage.{maxTaken}
+use Rattle.stage.proofs.Stages.{whole-of}
+use Rattle.matcher.specs.Matcher.{matcherFits, fresh}
 use Rattle.matcher.specs.Stroke.{strokeRefusal, strokeAnswer, afterStroke}
-use Rattle.refinement.specs.Refinement.{watchOf, Refines}
+use Rattle.refinement.specs.Refinement.{passageTests, watchOf, Refines}
 use Rattle.refinement.proofs.WatchFits as watch-fits
-use Rattle.refinement.proofs.Refines.{refines}
+use Rattle.refinement.proofs.Passages.{passage-refines}
 use Rattle.record.specs.Layout.{checkpointRecord}
 use Rattle.record.specs.Calls.{saveRefusal, saveUsed, saveBuffer, behindRefusal, behindBuffer, restoreRefusal, restoredMatcher}
 use Rattle.record.proofs.CheckpointRoundTrip.{Shaped, restore-accepted, restore-back}
@@ -44,68 +45,66 @@ use Rattle.whole_run.proofs.Buffers.{begins-rest, put-front, behind-fro
 use Rattle.whole_run.proofs.Histories.{Faithful, faithful-none, faithful-more, bytes-more}
 
 -- The watch is that of the history's bytes, and the history's answers are the ladder's.
-pub record Tracks (key : Key) (p : List ℕ) (w : Matcher) (h : History) : Type 0 where
-  pub watch : w ≡ watchOf key p (bytesOf h)
+pub record Tracks (key : Key) (p : List ℕ) (card : Signature) (w : Matcher) (h : History) : Type 0 where
+  pub watch : w ≡ watchOf card (bytesOf h)
   pub faithful : Faithful key p h
 
 -- The record is that of the watch of the history's bytes.
-pub record Records (key : Key) (p bytes : List ℕ) (h : History) : Type 0 where
-  pub written : bytes ≡ checkpointRecord (watchOf key p (bytesOf h))
+pub record Records (key : Key) (p : List ℕ) (card : Signature) (bytes : List ℕ) (h : History) : Type 0 where
+  pub written : bytes ≡ checkpointRecord (watchOf card (bytesOf h))
   pub faithful : Faithful key p h
 
 module _ {key : Key} {p : List ℕ} {card : Signature} (c : CardOf key p card) where
   facts : MadeSignature key p card
   facts = card-of c
 
-  pub never-misfit : (h : List ℕ) → matcherFits (watchOf key p h) ≡ true
-  never-misfit h = watch-fits.fits key p (facts .key-fits) (facts .not-empty) (facts .not-overlong) (facts .all-bytes) h
+  pub never-misfit : (h : List ℕ) → matcherFits (watchOf card h) ≡ true
+  never-misfit = watch-fits.fits card (facts .fits)
 
-  shaped : (h : List ℕ) → length h ≤ maxTaken → Shaped (watchOf key p h)
+  shaped : (h : List ℕ) → length h ≤ maxTaken → Shaped (watchOf card h)
   unfolding watchOf
-  shaped h l = record { stages = length-tabulate _ stageCount; now = omega arith }
+  shaped h l = record { stages = whole-of _; now = omega arith }
 
   -- A resumption from the record of such a watch is accepted and hands the watch back.
   pub resumed :
       (h : List ℕ)
       → length h ≤ maxTaken
       → (buffer : List ℕ)
-      → BeginsWith (checkpointRecord (watchOf key p h)) buffer
-      → (restoreRefusal card buffer ≡ 0) × (restoredMatcher card buffer ≡ watchOf key p h)
+      → BeginsWith (checkpointRecord (watchOf card h)) buffer
+      → (restoreRefusal card buffer ≡ 0) × (restoredMatcher card buffer ≡ watchOf card h)
   unfolding watchOf
   resumed h l buffer b =
-      let w : Matcher = watchOf key p h in
-      rw (facts .state, begins-rest (checkpointRecord w) buffer b)
+      let w : Matcher = watchOf card h in
+      rw (begins-rest (checkpointRecord w) buffer b)
       (restore-accepted w (never-misfit h) (shaped h l) _, restore-back w (never-misfit h) (shaped h l) _)
 
   -- A byte is taken until the count is spent.
-  pub takes-byte : (h : List ℕ) → length h < maxTaken → (byte : ℕ) → Refines key p h byte
-  takes-byte h l byte = refines key p (facts .key-fits) (facts .not-empty) (facts .not-overlong) (facts .all-bytes) h byte l
+  pub takes-byte : (h : List ℕ) → length h < maxTaken → (byte : ℕ) → Refines card (passageTests key p) h byte
+  takes-byte h l byte = passage-refines key p card (facts .state) (facts .fits) h byte l
 
-  pub spent : (h : List ℕ) → length h ≡ maxTaken → strokeRefusal (watchOf key p h) ≡ 6
+  pub spent : (h : List ℕ) → length h ≡ maxTaken → strokeRefusal (watchOf card h) ≡ 6
   unfolding watchOf
   spent h e = rw (never-misfit h, e)
 
-  not-spent : (h : List ℕ) → length h ≤ maxTaken → strokeRefusal (watchOf key p h) ≡ 0 → length h < maxTaken
+  not-spent : (h : List ℕ) → length h ≤ maxTaken → strokeRefusal (watchOf card h) ≡ 0 → length h < maxTaken
   not-spent h l e =
       elim (decLt (length h) maxTaken) [
         | yes below ↦ below
         | no over ↦ absurd (omega (arith, spent h (omega arith)))
       ]
 
-  fresh-tracks : Tracks key p (fresh card) []
+  fresh-tracks : Tracks key p card (fresh card) []
   fresh-tracks =
       record {
-        watch =
-            ap fresh (facts .state)
-            ∙ watch-fits.fresh-start key p (facts .key-fits) (facts .not-empty) (facts .not-overlong) (facts .all-bytes);
+        watch = watch-fits.fresh-start card (facts .fits);
         faithful = faithful-none key p;
       }
 
-  module _ {w : Matcher} {h : History} (q : Tracks key p w h) where
+  module _ {w : Matcher} {h : History} (q : Tracks key p card w h) where
     stroke-tracks :
         (byte : ℕ)
         → strokeRefusal w ≡ 0
-        → Tracks key p (afterStroke w byte) (h ++ record { byte = byte; answer = strokeAnswer w byte } ∷ [])
+        → Tracks key p card (afterStroke w byte) (h ++ record { byte = byte; answer = strokeAnswer w byte } ∷ [])
     stroke-tracks byte e =
         let l = not-spent (bytesOf h) (q .faithful .within) (rw (q .watch) at e) in
         let next = takes-byte (bytesOf h) l byte in
@@ -115,34 +114,34 @@ module _ {key : Key} {p : List ℕ} {card : Signature} (c : CardOf key p card) w
           faithful = faithful-more key p h x (rw (q .watch) (next .answer)) (q .faithful) l;
         }
 
-    refused-tracks : (byte : ℕ) → (strokeRefusal w ≡ 0 → ⊥) → Tracks key p (afterStroke w byte) h
+    refused-tracks : (byte : ℕ) → (strokeRefusal w ≡ 0 → ⊥) → Tracks key p card (afterStroke w byte) h
     unfolding afterStroke
     refused-tracks byte n = rw (ne-eqb (strokeRefusal w) 0 n, afterStroke) q
 
-    written-records : {bytes : List ℕ} → bytes ≡ checkpointRecord w → Records key p bytes h
+    written-records : {bytes : List ℕ} → bytes ≡ checkpointRecord w → Records key p card bytes h
     written-records e = record { written = rw (← q .watch) e; faithful = q .faithful }
 
-    parked-records : (lent : List ℕ) → saveRefusal w lent ≡ 0 → Records key p (take (saveUsed w lent) (saveBuffer w lent)) h
+    parked-records : (lent : List ℕ) → saveRefusal w lent ≡ 0 → Records key p card (take (saveUsed w lent) (saveBuffer w lent)) h
     parked-records lent e = written-records (put-front (matcherFits w) (checkpointRecord w) lent e)
 
     behind-records :
         (lent : List ℕ) (used : ℕ)
         → behindRefusal w lent used ≡ 0
-        → Records key p (take (saveUsed w (drop used lent)) (drop used (behindBuffer w lent used))) h
+        → Records key p card (take (saveUsed w (drop used lent)) (drop used (behindBuffer w lent used))) h
     behind-records lent used e = written-records (behind-front w lent used e)
 
   resumed-tracks :
       {bytes : List ℕ} {h : History} (buffer : List ℕ)
-      → Records key p bytes h
+      → Records key p card bytes h
       → BeginsWith bytes buffer
-      → Tracks key p (restoredMatcher card buffer) h
+      → Tracks key p card (restoredMatcher card buffer) h
   resumed-tracks {bytes} {h} buffer r b =
       record { watch = resumed (bytesOf h) (r .faithful .within) buffer (rw (r .written) at b) .1; faithful = r .faithful }
 
   -- One induction over the list of calls and those of the parkings that it resumes.
-  pub run-tracks : {calls : List Call} {w : Matcher} {h : History} → Run card calls w h → Tracks key p w h
+  pub run-tracks : {calls : List Call} {w : Matcher} {h : History} → Run card calls w h → Tracks key p card w h
   run-tracks run =
-      elim run as (λ calls w h d. Tracks key p w h) (λ bytes h d. Records key p bytes h) [
+      elim run as (λ calls w h d. Tracks key p card w h) (λ bytes h d. Records key p card bytes h) [
         | starts e ↦ fresh-tracks
         | takes door byte small (d → q) e ↦ stroke-tracks q byte e
         | refuses-stroke door byte (d → q) n ↦ refused-tracks q byte n
@@ -154,6 +153,6 @@ module _ {key : Key} {p : List ℕ} {card : Signature} (c : CardOf key p card) w
         | parked-behind lent used (d → q) e ↦ behind-records q lent used e
       ]
 
-  pub wrote-tracks : {bytes : List ℕ} {h : History} → Wrote card bytes h → Records key p bytes h
+  pub wrote-tracks : {bytes : List ℕ} {h : History} → Wrote card bytes h → Records key p card bytes h
   wrote-tracks (parked lent d e) = parked-records (run-tracks d) lent e
   wrote-tracks (parked-behind lent used d e) = behind-records (run-tracks d) lent used e

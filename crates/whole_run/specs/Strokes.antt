@@ -6,7 +6,7 @@ use Rattle.matcher.specs.declared.Matcher.{Matcher}
 use Rattle.matcher.specs.declared.Answer.{Answer}
 use Rattle.matcher.specs.Stroke.{strokeAnswer, afterStroke}
 use Rattle.matcher.specs.Scan.{silent}
-use Rattle.whole_run.specs.History.{Taken, History}
+use Rattle.whole_run.specs.History.{History}
 use Rattle.whole_run.specs.Run.{core, Call, stroke}
 
 -- a stroke of the core for each byte

@@ -40,7 +40,8 @@ module _ (c : tie.After-enum-told2) where
       × (w .result .used ≡ length (signatureRecord (signatureOf (begun .args .key) passage)))
       × (w .result .used ≤ length (w .last .1 .1 .0))
   record-stands =
-      stands (begun .args .key) passage (begun .args .out .now) _ _ accepted (carded c .write-card .ensures .1 .0) (carded c .write-card .ensures .1 .1)
+      let e = carded c .write-card .ensures .1 in
+      stands (begun .args .key) passage (begun .args .out .now) _ _ accepted (e .0) (e .1)
 
 fill-requires : tie.Need-fill-requires
 fill-requires c κs = search needs
@@ -96,7 +97,8 @@ returns-3 : tie.Need-returns-3
 returns-3 c =
     let t = c .before .before .before in
     let w = carded t .write-card in
-    let counted = all-written (c .before .write .result) (w .last .1 .1 .0) (w .result .used) (record-stands t .2) (c .before .write .ensures) (c .if2 .taken) in
+    let u = c .before .write in
+    let counted = all-written (u .result) (w .last .1 .1 .0) (w .result .used) (record-stands t .2) (u .ensures) (c .if2 .taken) in
     outcome.written refl (filled (carded t) .fill .ensures .0) (accepted t) (rw counted (record-stands t .0)) (counted ∙ record-stands t .1)
 
 same-length-6 : tie.Need-same-length-6

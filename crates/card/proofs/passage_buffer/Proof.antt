@@ -2,11 +2,12 @@
 use Prim.Native.Nat.{ℕ}
 use mathlib.Core.Path.{sym}
 use lib.ListN.{length-replicate}
+use Rattle.card_core.specs.Card.{overlong}
 use Rattle.card.proofs.passage_buffer.Statement.{statement}
 use Rattle.card.proofs.passage_buffer.Tie as tie
 
 returns : tie.Need-returns
-returns c = sym (length-replicate {0} {A = ℕ} 1048577 0)
+returns c = sym (length-replicate {0} {A = ℕ} overlong 0)
 
 pub passage-buffer-spec : {M : Type 1} → statement M
 passage-buffer-spec = tie.close (tie.spec returns)

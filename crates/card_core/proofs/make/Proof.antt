@@ -1,4 +1,4 @@
--- `card_core::make` meets its contract: the maker is led through the passage byte by byte.
+-- `card_core::make` meets its contract: the builder is led through the passage byte by byte.
 use Prim.Native.Nat.{ℕ, _-_, _≤_}
 use mathlib.Core.Path.{_≡_, sym, _∙_, ap}
 use mathlib.Core.List.{List}
@@ -35,7 +35,9 @@ module _ (c : tie.After-begin Inv-loop μ-loop) where
   key = start c .args .key
 
   begun-number : number (c .begin .result .verdict) ≡ makeRefusal key passage
-  begun-number = begin-number (length passage) key (c .begin .result .verdict) (c .before .told .result) (c .before .told .ensures) (c .begin .ensures .0)
+  begun-number =
+      let told = c .before .told in
+      begin-number (length passage) key (c .begin .result .verdict) (told .result) (told .ensures) (c .begin .ensures .0)
 
   began-with : c .begin .result .verdict ≡ Accepted → Began (length passage) key (c .begin .result .builder)
   began-with = began _ _ _ _ (c .before .told .ensures) (c .begin .ensures .0) _ (c .begin .ensures .1)

@@ -2,8 +2,10 @@
 use borrow.Author.Needs.{needs}
 use borrow.Author.Tests.{eq-eqb, ne-eqb}
 use mathlib.Core.Path.{sym}
+use Rattle.stage.specs.Stages.{stageAt}
+use Rattle.stage.proofs.Room.{enter-room}
 use Rattle.matcher.specs.Stroke.{promotedUnder}
-use Rattle.matcher.proofs.Rounds.{with-aside}
+use Rattle.matcher.proofs.Visits.{with-aside}
 use Rattle.matcher.proofs.admit.Statement.{statement}
 use Rattle.matcher.proofs.admit.Tie as tie
 
@@ -18,7 +20,7 @@ array-copy-out-s : tie.Need-array-copy-out-s
 array-copy-out-s c = search needs
 
 enter-requires : tie.Need-enter-requires
-enter-requires c κs = c .before .before .before .before .pre .0
+enter-requires c κs = search needs
 
 array-set-from-stages : tie.Need-array-set-from-stages
 array-set-from-stages c = search needs
@@ -31,7 +33,10 @@ unfolding promotedUnder
 returns-2 c =
     let if1 = c .before .before .before .before .before .if1 in
     let enter = c .before .before .enter in
-    rw (ne-eqb 0 _ (λ e. if1 .left (sym e)), c .with .ensures, enter .ensures .0, enter .ensures .1, with-aside)
+    let pre = c .before .before .before .before .before .before .before .pre in
+    let args = c .before .before .before .before .before .before .before .args in
+    let entry = enter-room (args .key) (stageAt (args .w .stages) 0) (args .start) (pre .0) in
+    rw (ne-eqb 0 _ (λ e. if1 .left (sym e)), c .with .ensures, enter .ensures, entry, with-aside)
 
 pub admit-spec : {M : Type 1} → statement M
 admit-spec =

@@ -12,7 +12,7 @@ levels-requires c κs = search needs
 descend-requires : tie.Need-descend-requires
 descend-requires c κs =
     let pre = c .before .pre in
-    rw (pre .3, sub-one) (pre .1, c .levels .ensures, pre .2, pre .4)
+    rw (pre .3, sub-one) (pre .1, c .levels .ensures, pre .2, search needs, pre .4)
 
 add-answer : tie.Need-add-answer
 add-answer c = search needs

@@ -5,11 +5,12 @@ use mathlib.Core.Path.{_≡_, sym, _∙_}
 use mathlib.Core.Bool.{true}
 use native.Mathlib.Numerals.{add-one}
 use native.Mathlib.Omega.{arith}
-use lib.ListN.{getD}
 use Rattle.lists.proofs.Laws.{counted-elements}
-use Rattle.matcher.specs.Matcher.{noStage}
-use Rattle.matcher.specs.Stroke.{ripe, matches}
-use Rattle.matcher.proofs.Rounds.{Turn, turn-begin, turn-unripe, turn-dropped, turn-rung, turn-entered, turn-shift, turn-end, visited-small, room-above, ripe-held}
+use Rattle.ladder.specs.Prefix.{prefixLength}
+use Rattle.stage.specs.Stage.{ripeAt}
+use Rattle.stage.specs.Stages.{stageAt}
+use Rattle.matcher.specs.Stroke.{matches}
+use Rattle.matcher.proofs.Rounds.{Turn, turn-begin, turn-unripe, turn-shift, turn-dropped, turn-rung, turn-entered, turn-end}
 use Rattle.matcher.proofs.descend.Statement.{statement}
 use Rattle.matcher.proofs.descend.Tie as tie
 
@@ -23,18 +24,20 @@ abbrev μ-loop : tie.MeasureT-loop
 -- the stage visited has a ripe start
 ripened :
     (c : tie.Then1 Inv-loop μ-loop)
-    → ripe (c .before .before .before .before .before .before .before .before .before .args .c) (c .before .before .before .before .loop .i - 1) (getD (c .before .before .before .before .loop .w .stages) (c .before .before .before .before .loop .i - 1) noStage) ≡ true
-ripened c = sym (c .before .is-ripe .ensures) ∙ c .if1 .taken
+    → ripeAt (prefixLength (c .before .before .before .before .before .before .before .before .before .before .args .c .signature .length) (c .before .before .before .before .before .loop .i)) (c .before .before .before .before .before .before .before .before .before .before .args .c .now .at)
+    (stageAt (c .before .before .before .before .before .loop .w .stages) (c .before .before .before .before .before .loop .i - 1))
+    ≡ true
+ripened c = rw (c .before .before .prefix-length .ensures) at (sym (c .before .is-ripe .ensures) ∙ c .if1 .taken)
 
 -- the comparison is that of the start's block with the beginning above
 judged :
     (c : tie.After-matches Inv-loop μ-loop)
-    → c .matches .result ≡ matches (c .before .before .before .before .before .before .before .before .before .before .before .before .before .before .args .c) (c .before .before .before .before .before .before .before .before .before .loop .i) (getD (c .before .before .before .before .before .before .before .before .before .loop .w .stages) (c .before .before .before .before .before .before .before .before .before .loop .i - 1) noStage .first)
+    → c .matches .result ≡ matches (c .before .before .before .before .before .before .before .before .before .before .before .before .before .before .before .args .c) (c .before .before .before .before .before .before .before .before .before .before .loop .i) (stageAt (c .before .before .before .before .before .before .before .before .before .before .loop .w .stages) (c .before .before .before .before .before .before .before .before .before .before .loop .i - 1) .first)
 judged c =
-    let loop-test = c .before .before .before .before .before .before .before .before .loop-test in
-    let pre = c .before .before .before .before .before .before .before .before .before .before .before .before .before .before .pre in
-    let args = c .before .before .before .before .before .before .before .before .before .before .before .before .before .before .args in
-    let loop = c .before .before .before .before .before .before .before .before .before .loop in
+    let loop-test = c .before .before .before .before .before .before .before .before .before .loop-test in
+    let pre = c .before .before .before .before .before .before .before .before .before .before .before .before .before .before .before .pre in
+    let args = c .before .before .before .before .before .before .before .before .before .before .before .before .before .before .before .args in
+    let loop = c .before .before .before .before .before .before .before .before .before .before .loop in
     c .matches .ensures (args .c .signature .key) (turn-shift (args .c) (args .k) (loop .i) _ (loop .w) (loop-test .taken) (loop .inv) (ripened (c .before .before .before .before .before)) (args .t3) (pre .2))
 
 none-requires : tie.Need-none-requires Inv-loop μ-loop
@@ -44,7 +47,7 @@ loop-holds : tie.Need-loop-holds Inv-loop μ-loop
 loop-holds c =
     let args = c .before .before .before .before .args in
     let pre = c .before .before .before .before .pre in
-    turn-begin (args .c) (record { stages = args .before; answer = c .none .result }) (args .k) (pre .1) (pre .0) (search (counted-elements, needs)) (pre .3) (c .none .ensures)
+    turn-begin (args .c) (record { stages = args .before; answer = c .none .result }) (args .k) (pre .1) (pre .0) (pre .3) (omega arith) (search (counted-elements, needs)) (pre .4) (c .none .ensures)
 
 sub-i : tie.Need-sub-i Inv-loop μ-loop
 sub-i c = search needs
@@ -56,70 +59,66 @@ mul-s : tie.Need-mul-s Inv-loop μ-loop
 mul-s c = search needs
 
 element-copy-out-s : tie.Need-element-copy-out-s Inv-loop μ-loop
-element-copy-out-s c = omega (arith, c .before .loop .inv .most, c .before .loop .inv .midway .within)
+element-copy-out-s c = omega (arith, c .before .loop .inv .most, c .before .loop .inv .within)
+
+prefix-length-requires : tie.Need-prefix-length-requires Inv-loop μ-loop
+prefix-length-requires c κs = search needs
 
 is-ripe-requires : tie.Need-is-ripe-requires Inv-loop μ-loop
-is-ripe-requires c κs = omega (arith, c .before .before .loop .inv .most, c .before .before .loop .inv .midway .within)
+is-ripe-requires c κs = search needs
 
 take-off-requires : tie.Need-take-off-requires Inv-loop μ-loop
-take-off-requires c κs =
-    let loop-test = c .before .before .before .before .loop-test in
-    let args = c .before .before .before .before .before .before .before .before .before .before .args in
-    let loop = c .before .before .before .before .before .loop in
-    let small = visited-small (args .c) (args .k) (loop .i) _ (loop .w) (loop-test .taken) (loop .inv) in (
-      ripe-held (args .c) (loop .i - 1) (getD (loop .w .stages) (loop .i - 1) noStage) (ripened (c .before)),
-      λ h. omega (arith, small .second h),
-    )
+take-off-requires c κs = search needs
 
 cast-rest : tie.Need-cast-rest Inv-loop μ-loop
 cast-rest c =
-    let loop = c .before .before .before .before .before .before .loop in
-    omega (arith, loop .inv .most, loop .inv .midway .within)
+    let loop = c .before .before .before .before .before .before .before .loop in
+    omega (arith, loop .inv .most, loop .inv .within)
 
 mul-rest : tie.Need-mul-rest Inv-loop μ-loop
 mul-rest c =
-    let loop = c .before .before .before .before .before .before .loop in
-    omega (arith, loop .inv .most, loop .inv .midway .within)
+    let loop = c .before .before .before .before .before .before .before .loop in
+    omega (arith, loop .inv .most, loop .inv .within)
 
 element-set-from-rest : tie.Need-element-set-from-rest Inv-loop μ-loop
 element-set-from-rest c =
-    let loop = c .before .before .before .before .before .before .loop in
-    omega (arith, loop .inv .most, loop .inv .midway .within)
+    let loop = c .before .before .before .before .before .before .before .loop in
+    omega (arith, loop .inv .most, loop .inv .within)
 
 add-w : tie.Need-add-w Inv-loop μ-loop
 add-w c =
-    let loop = c .before .before .before .before .before .before .loop in
-    omega (arith, loop .inv .most, loop .inv .midway .count)
+    let loop = c .before .before .before .before .before .before .before .loop in
+    omega (arith, loop .inv .most, loop .inv .count)
 
 cast-shift : tie.Need-cast-shift Inv-loop μ-loop
 cast-shift c =
-    let loop = c .before .before .before .before .before .before .before .loop in
-    omega (arith, loop .inv .most, loop .inv .midway .within)
+    let loop = c .before .before .before .before .before .before .before .before .loop in
+    omega (arith, loop .inv .most, loop .inv .within)
 
 mul-shift : tie.Need-mul-shift Inv-loop μ-loop
 mul-shift c =
-    let loop = c .before .before .before .before .before .before .before .loop in
-    omega (arith, loop .inv .most, loop .inv .midway .within)
+    let loop = c .before .before .before .before .before .before .before .before .loop in
+    omega (arith, loop .inv .most, loop .inv .within)
 
 array-read-shift : tie.Need-array-read-shift Inv-loop μ-loop
 array-read-shift c =
-    let loop = c .before .before .before .before .before .before .before .loop in
-    omega (arith, loop .inv .most, loop .inv .midway .within)
+    let loop = c .before .before .before .before .before .before .before .before .loop in
+    omega (arith, loop .inv .most, loop .inv .within)
 
 cast-print : tie.Need-cast-print Inv-loop μ-loop
 cast-print c =
-    let loop = c .before .before .before .before .before .before .before .loop in
-    omega (arith, loop .inv .most, loop .inv .midway .within)
+    let loop = c .before .before .before .before .before .before .before .before .loop in
+    omega (arith, loop .inv .most, loop .inv .within)
 
 mul-print : tie.Need-mul-print Inv-loop μ-loop
 mul-print c =
-    let loop = c .before .before .before .before .before .before .before .loop in
-    omega (arith, loop .inv .most, loop .inv .midway .within)
+    let loop = c .before .before .before .before .before .before .before .before .loop in
+    omega (arith, loop .inv .most, loop .inv .within)
 
 array-copy-out-print : tie.Need-array-copy-out-print Inv-loop μ-loop
 array-copy-out-print c =
-    let loop = c .before .before .before .before .before .before .before .loop in
-    omega (arith, loop .inv .most, loop .inv .midway .within)
+    let loop = c .before .before .before .before .before .before .before .before .loop in
+    omega (arith, loop .inv .most, loop .inv .within)
 
 matches-requires : tie.Need-matches-requires Inv-loop μ-loop
 matches-requires c κs = search needs
@@ -128,126 +127,120 @@ with-ring-requires : tie.Need-with-ring-requires Inv-loop μ-loop
 with-ring-requires c κs = search needs
 
 loop-less : tie.Need-loop-less Inv-loop μ-loop
-loop-less c = omega (arith, c .before .before .before .before .before .before .before .before .before .before .before .before .loop-test .taken)
+loop-less c = omega (arith, c .before .before .before .before .before .before .before .before .before .before .before .before .before .loop-test .taken)
 
 loop-again : tie.Need-loop-again Inv-loop μ-loop
 loop-again c =
     let take-off = c .before .before .before .before .before .before .before .take-off in
-    let loop-test = c .before .before .before .before .before .before .before .before .before .before .before .before .loop-test in
+    let loop-test = c .before .before .before .before .before .before .before .before .before .before .before .before .before .loop-test in
     let if2 = c .before .before .before .if2 in
     let if3 = c .before .before .if3 in
-    let args = c .before .before .before .before .before .before .before .before .before .before .before .before .before .before .before .before .before .before .args in
-    let loop = c .before .before .before .before .before .before .before .before .before .before .before .before .before .loop in
-    rw (c .with-ring .ensures, take-off .ensures, add-one (loop .w .answer .comparisons))
-    (turn-rung (args .c) (args .k) (loop .i) _ (loop .w) (loop-test .taken) (loop .inv) (ripened (c .before .before .before .before .before .before .before .before .before)) (sym (judged (c .before .before .before .before)) ∙ if2 .taken) (if3 .taken))
+    let args = c .before .before .before .before .before .before .before .before .before .before .before .before .before .before .before .before .before .before .before .args in
+    let loop = c .before .before .before .before .before .before .before .before .before .before .before .before .before .before .loop in
+    rw (c .with-ring .ensures, add-one (loop .w .answer .comparisons))
+    (turn-rung (args .c) (args .k) (loop .i) _ (loop .w) (loop-test .taken) (loop .inv) (ripened (c .before .before .before .before .before .before .before .before .before)) (take-off .result) (take-off .ensures) (sym (judged (c .before .before .before .before)) ∙ if2 .taken) (if3 .taken))
 
 cast-u : tie.Need-cast-u Inv-loop μ-loop
 cast-u c =
-    let loop = c .before .before .before .before .before .before .before .before .before .before .before .loop in
-    omega (arith, loop .inv .most, loop .inv .midway .within)
+    let loop = c .before .before .before .before .before .before .before .before .before .before .before .before .loop in
+    omega (arith, loop .inv .most, loop .inv .within)
 
 mul-u : tie.Need-mul-u Inv-loop μ-loop
 mul-u c =
-    let loop = c .before .before .before .before .before .before .before .before .before .before .before .loop in
-    omega (arith, loop .inv .most, loop .inv .midway .within)
+    let loop = c .before .before .before .before .before .before .before .before .before .before .before .before .loop in
+    omega (arith, loop .inv .most, loop .inv .within)
 
 element-copy-out-u : tie.Need-element-copy-out-u Inv-loop μ-loop
 element-copy-out-u c =
-    let loop = c .before .before .before .before .before .before .before .before .before .before .before .loop in
-    omega (arith, loop .inv .most, loop .inv .midway .within)
+    let loop = c .before .before .before .before .before .before .before .before .before .before .before .before .loop in
+    omega (arith, loop .inv .most, loop .inv .within)
 
 enter-requires : tie.Need-enter-requires Inv-loop μ-loop
-enter-requires c κs =
-    let take-off = c .before .before .before .before .before .before .take-off in
-    let loop-test = c .before .before .before .before .before .before .before .before .before .before .before .loop-test in
-    let args = c .before .before .before .before .before .before .before .before .before .before .before .before .before .before .before .before .before .args in
-    let loop = c .before .before .before .before .before .before .before .before .before .before .before .before .loop in
-    rw (take-off .ensures) (room-above (args .c) (args .k) (loop .i) _ (loop .w) (loop-test .taken) (loop .inv) .0)
+enter-requires c κs = search needs
 
 cast-stage : tie.Need-cast-stage Inv-loop μ-loop
 cast-stage c =
-    let loop = c .before .before .before .before .before .before .before .before .before .before .before .before .before .before .loop in
-    omega (arith, loop .inv .most, loop .inv .midway .within)
+    let loop = c .before .before .before .before .before .before .before .before .before .before .before .before .before .before .before .loop in
+    omega (arith, loop .inv .most, loop .inv .within)
 
 mul-stage : tie.Need-mul-stage Inv-loop μ-loop
 mul-stage c =
-    let loop = c .before .before .before .before .before .before .before .before .before .before .before .before .before .before .loop in
-    omega (arith, loop .inv .most, loop .inv .midway .within)
+    let loop = c .before .before .before .before .before .before .before .before .before .before .before .before .before .before .before .loop in
+    omega (arith, loop .inv .most, loop .inv .within)
 
 element-set-from-stage : tie.Need-element-set-from-stage Inv-loop μ-loop
 element-set-from-stage c =
-    let loop = c .before .before .before .before .before .before .before .before .before .before .before .before .before .before .loop in
-    omega (arith, loop .inv .most, loop .inv .midway .within)
+    let loop = c .before .before .before .before .before .before .before .before .before .before .before .before .before .before .before .loop in
+    omega (arith, loop .inv .most, loop .inv .within)
 
 enum-told : tie.Need-enum-told Inv-loop μ-loop
 enum-told c = search needs
 
 with-requires : tie.Need-with-requires Inv-loop μ-loop
 with-requires c κs =
-    let loop-test = c .before .before .before .before .before .before .before .before .before .before .before .before .before .before .before .before .loop-test in
-    let args = c .before .before .before .before .before .before .before .before .before .before .before .before .before .before .before .before .before .before .before .before .before .before .args in
-    let loop = c .before .before .before .before .before .before .before .before .before .before .before .before .before .before .before .before .before .loop in
-    room-above (args .c) (args .k) (loop .i) _ (loop .w) (loop-test .taken) (loop .inv) .1
+    let loop-test = c .before .before .before .before .before .before .before .before .before .before .before .before .before .before .before .before .before .loop-test in
+    let loop = c .before .before .before .before .before .before .before .before .before .before .before .before .before .before .before .before .before .before .loop in
+    omega (arith, loop .inv .room, loop .inv .most, loop-test .taken)
 
 loop-less-2 : tie.Need-loop-less-2 Inv-loop μ-loop
 loop-less-2 c =
-    let loop-test = c .before .before .before .before .before .before .before .before .before .before .before .before .before .before .before .before .before .loop-test in
+    let loop-test = c .before .before .before .before .before .before .before .before .before .before .before .before .before .before .before .before .before .before .loop-test in
     omega (arith, loop-test .taken)
 
 loop-again-2 : tie.Need-loop-again-2 Inv-loop μ-loop
 loop-again-2 c =
     let enter = c .before .before .before .before .before .enter in
     let take-off = c .before .before .before .before .before .before .before .before .before .before .before .before .take-off in
-    let loop-test = c .before .before .before .before .before .before .before .before .before .before .before .before .before .before .before .before .before .loop-test in
+    let loop-test = c .before .before .before .before .before .before .before .before .before .before .before .before .before .before .before .before .before .before .loop-test in
     let if2 = c .before .before .before .before .before .before .before .before .if2 in
     let if3 = c .before .before .before .before .before .before .before .if3 in
-    let args = c .before .before .before .before .before .before .before .before .before .before .before .before .before .before .before .before .before .before .before .before .before .before .before .args in
-    let loop = c .before .before .before .before .before .before .before .before .before .before .before .before .before .before .before .before .before .before .loop in
-    rw (enter .ensures .0, take-off .ensures)
-    (turn-entered (args .c) (args .k) (loop .i) _ (loop .w) (loop-test .taken) (loop .inv) (ripened (c .before .before .before .before .before .before .before .before .before .before .before .before .before .before)) (sym (judged (c .before .before .before .before .before .before .before .before .before)) ∙ if2 .taken) (if3 .left)
-    (enter .result .aside) _ (rw (← take-off .ensures) (enter .ensures .1)) (rw add-one at (c .with .ensures)))
+    let args = c .before .before .before .before .before .before .before .before .before .before .before .before .before .before .before .before .before .before .before .before .before .before .before .before .args in
+    let loop = c .before .before .before .before .before .before .before .before .before .before .before .before .before .before .before .before .before .before .before .loop in
+    (turn-entered (args .c) (args .k) (loop .i) _ (loop .w) (loop-test .taken) (loop .inv) (ripened (c .before .before .before .before .before .before .before .before .before .before .before .before .before .before)) (take-off .result) (take-off .ensures) (sym (judged (c .before .before .before .before .before .before .before .before .before)) ∙ if2 .taken) (if3 .left)
+    (enter .result) (enter .ensures) _ (rw add-one at (c .with .ensures)))
 
 enum-told-2 : tie.Need-enum-told-2 Inv-loop μ-loop
 enum-told-2 c = search needs
 
 loop-less-3 : tie.Need-loop-less-3 Inv-loop μ-loop
 loop-less-3 c =
-    let loop-test = c .before .before .before .before .before .before .before .before .before .before .before .before .before .before .before .loop-test in
+    let loop-test = c .before .before .before .before .before .before .before .before .before .before .before .before .before .before .before .before .loop-test in
     omega (arith, loop-test .taken)
 
 loop-again-3 : tie.Need-loop-again-3 Inv-loop μ-loop
 loop-again-3 c =
     let enter = c .before .before .before .enter in
     let take-off = c .before .before .before .before .before .before .before .before .before .before .take-off in
-    let loop-test = c .before .before .before .before .before .before .before .before .before .before .before .before .before .before .before .loop-test in
+    let loop-test = c .before .before .before .before .before .before .before .before .before .before .before .before .before .before .before .before .loop-test in
     let if2 = c .before .before .before .before .before .before .if2 in
     let if3 = c .before .before .before .before .before .if3 in
-    let args = c .before .before .before .before .before .before .before .before .before .before .before .before .before .before .before .before .before .before .before .before .before .args in
-    let loop = c .before .before .before .before .before .before .before .before .before .before .before .before .before .before .before .before .loop in
-    rw (enter .ensures .0, take-off .ensures, add-one (loop .w .answer .comparisons))
-    (turn-entered (args .c) (args .k) (loop .i) _ (loop .w) (loop-test .taken) (loop .inv) (ripened (c .before .before .before .before .before .before .before .before .before .before .before .before)) (sym (judged (c .before .before .before .before .before .before .before)) ∙ if2 .taken) (if3 .left)
-    (enter .result .aside) _ (rw (← take-off .ensures) (enter .ensures .1)) (rw (c .enum-told2 .given .1)))
+    let args = c .before .before .before .before .before .before .before .before .before .before .before .before .before .before .before .before .before .before .before .before .before .before .args in
+    let loop = c .before .before .before .before .before .before .before .before .before .before .before .before .before .before .before .before .before .loop in
+    rw (add-one (loop .w .answer .comparisons))
+    (turn-entered (args .c) (args .k) (loop .i) _ (loop .w) (loop-test .taken) (loop .inv) (ripened (c .before .before .before .before .before .before .before .before .before .before .before .before)) (take-off .result) (take-off .ensures) (sym (judged (c .before .before .before .before .before .before .before)) ∙ if2 .taken) (if3 .left)
+    (enter .result) (enter .ensures) _ (rw (c .enum-told2 .given .1)))
 
 loop-less-4 : tie.Need-loop-less-4 Inv-loop μ-loop
-loop-less-4 c = omega (arith, c .before .before .before .before .before .before .before .before .before .loop-test .taken)
+loop-less-4 c = omega (arith, c .before .before .before .before .before .before .before .before .before .before .loop-test .taken)
 
 loop-again-4 : tie.Need-loop-again-4 Inv-loop μ-loop
 loop-again-4 c =
     let take-off = c .before .before .before .before .take-off in
-    let loop-test = c .before .before .before .before .before .before .before .before .before .loop-test in
-    let args = c .before .before .before .before .before .before .before .before .before .before .before .before .before .before .before .args in
-    let loop = c .before .before .before .before .before .before .before .before .before .before .loop in
-    rw (take-off .ensures, add-one) (turn-dropped (args .c) (args .k) (loop .i) _ (loop .w) (loop-test .taken) (loop .inv) (ripened (c .before .before .before .before .before .before)) (sym (judged (c .before)) ∙ c .if2 .left))
+    let loop-test = c .before .before .before .before .before .before .before .before .before .before .loop-test in
+    let args = c .before .before .before .before .before .before .before .before .before .before .before .before .before .before .before .before .args in
+    let loop = c .before .before .before .before .before .before .before .before .before .before .before .loop in
+    rw add-one (turn-dropped (args .c) (args .k) (loop .i) _ (loop .w) (loop-test .taken) (loop .inv) (ripened (c .before .before .before .before .before .before)) (take-off .result) (take-off .ensures) (sym (judged (c .before)) ∙ c .if2 .left))
 
 loop-less-5 : tie.Need-loop-less-5 Inv-loop μ-loop
-loop-less-5 c = omega (arith, c .before .before .before .loop-test .taken)
+loop-less-5 c = omega (arith, c .before .before .before .before .loop-test .taken)
 
 loop-again-5 : tie.Need-loop-again-5 Inv-loop μ-loop
 loop-again-5 c =
-    let loop-test = c .before .before .before .loop-test in
-    let args = c .before .before .before .before .before .before .before .before .before .args in
-    let loop = c .before .before .before .before .loop in
-    turn-unripe (args .c) (args .k) (loop .i) _ (loop .w) (loop-test .taken) (loop .inv) (sym (c .before .is-ripe .ensures) ∙ c .if1 .left)
+    let loop-test = c .before .before .before .before .loop-test in
+    let args = c .before .before .before .before .before .before .before .before .before .before .args in
+    let loop = c .before .before .before .before .before .loop in
+    turn-unripe (args .c) (args .k) (loop .i) _ (loop .w) (loop-test .taken) (loop .inv)
+    (rw (c .before .before .prefix-length .ensures) at (sym (c .before .is-ripe .ensures) ∙ c .if1 .left))
 
 returns : tie.Need-returns Inv-loop μ-loop
 returns c =
@@ -267,6 +260,7 @@ descend-spec =
     cast-s
     mul-s
     element-copy-out-s
+    prefix-length-requires
     is-ripe-requires
     take-off-requires
     cast-rest

@@ -2,15 +2,17 @@
 use borrow.Author.Needs.{needs}
 use Prim.Native.Nat.{_-_, _≤_}
 use native.Mathlib.Nat.{not-suc-le-zero}
+use native.Mathlib.Numerals.{add-one}
 use native.Mathlib.Omega.{arith}
 use Rattle.ladder.proofs.Levels.{levels-bound}
+use Rattle.stage.specs.Stages.{stageCount}
 use Rattle.matcher.specs.Skip.{Unripe}
 use Rattle.matcher.proofs.Quiet.{unripe-more}
 use Rattle.matcher.proofs.quiet_until.Statement.{statement}
 use Rattle.matcher.proofs.quiet_until.Tie as tie
 
 abbrev Inv-loop : tie.InvT-loop
-Inv-loop m stages k until₀ i₀ until i = (i ≤ k) × (k ≤ 20) × Unripe i m until stages
+Inv-loop m stages k until₀ i₀ until i = (i ≤ k) × (k ≤ stageCount) × Unripe i m until stages
 
 abbrev μ-loop : tie.MeasureT-loop
 μ-loop m stages k until₀ i₀ until i = k - i
@@ -30,6 +32,12 @@ mul-stage c = search needs
 array-copy-out-stage : tie.Need-array-copy-out-stage Inv-loop μ-loop
 array-copy-out-stage c = search needs
 
+add-prefix-length : tie.Need-add-prefix-length Inv-loop μ-loop
+add-prefix-length c = search needs
+
+prefix-length-requires : tie.Need-prefix-length-requires Inv-loop μ-loop
+prefix-length-requires c κs = search needs
+
 quiet-until-requires : tie.Need-quiet-until-requires Inv-loop μ-loop
 quiet-until-requires c κs = search needs
 
@@ -41,9 +49,11 @@ loop-less c = search needs
 
 loop-again : tie.Need-loop-again Inv-loop μ-loop
 loop-again c =
-    let loop = c .before .before .before .loop in
-    let args = c .before .before .before .before .before .args in
-    (omega arith, loop .inv .1, unripe-more (loop .i) (args .m) (args .t1) (c .quiet-until .ensures .0) (loop .inv .2) (c .quiet-until .ensures .1))
+    let loop = c .before .before .before .before .loop in
+    let args = c .before .before .before .before .before .before .args in
+    let pre = c .before .before .before .before .before .before .pre in
+    let quiet = rw (c .before .prefix-length .ensures, add-one) at (c .quiet-until .ensures) in
+    (omega arith, loop .inv .1, unripe-more (loop .i) (args .m) (args .t1) (pre .0) quiet (loop .inv .2))
 
 returns : tie.Need-returns Inv-loop μ-loop
 returns c = λ j l. c .before .loop .inv .2 j (omega arith)
@@ -59,6 +69,8 @@ quiet-until-spec =
     cast-stage
     mul-stage
     array-copy-out-stage
+    add-prefix-length
+    prefix-length-requires
     quiet-until-requires
     add-i
     loop-less

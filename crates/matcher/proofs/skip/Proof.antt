@@ -4,14 +4,15 @@ use Prim.Native.Nat.{_+_, _-_, _≤_, min}
 use mathlib.Core.Path.{_≡_, sym, _∙_, ap}
 use native.Mathlib.Omega.{arith}
 use lib.ListN.{length, drop}
-use Rattle.matcher.specs.declared.Mark.{Mark}
+use Rattle.stage.specs.declared.Mark.{Mark}
+use Rattle.stage.specs.Stage.{maxTaken}
 use Rattle.matcher.specs.Skip.{skipped}
 use Rattle.matcher.proofs.Quiet.{skipped-none, skipped-stop, skipped-step}
 use Rattle.matcher.proofs.skip.Statement.{statement}
 use Rattle.matcher.proofs.skip.Tie as tie
 
 abbrev Inv-loop : tie.InvT-loop
-Inv-loop key first until input from end at₀ mark₀ at mark = (at ≤ end) × (end ≤ length input) × (mark .at + (end - at) ≤ 4294967295) × (skipped key first (end - at) mark (drop at input) ≡ skipped key first (min (until - mark₀ .at) (length input - from)) mark₀ (drop from input))
+Inv-loop key first until input from end at₀ mark₀ at mark = (at ≤ end) × (end ≤ length input) × (mark .at + (end - at) ≤ maxTaken) × (skipped key first (end - at) mark (drop at input) ≡ skipped key first (min (until - mark₀ .at) (length input - from)) mark₀ (drop from input))
 
 abbrev μ-loop : tie.MeasureT-loop
 μ-loop key first until input from end at₀ mark₀ at mark = end - at
@@ -41,8 +42,8 @@ returns c =
     let shared-slice-known2 = c .before .before .shared-slice-known2 in
     sym (skipped-stop (args .key) (args .first) (args .input .now) (loop .mark) (reach .result - loop .at) (loop .at) (omega arith) (omega arith) (shared-slice-known2 .given (loop .at) .fits) (c .if1 .taken)) ∙ loop .inv .3
 
-push-requires : tie.Need-push-requires Inv-loop μ-loop
-push-requires c κs = search needs
+next-mark-requires : tie.Need-next-mark-requires Inv-loop μ-loop
+next-mark-requires c κs = search needs
 
 add-at : tie.Need-add-at Inv-loop μ-loop
 add-at c = search needs
@@ -56,7 +57,7 @@ loop-again c =
     let loop = c .before .before .before .before .before .loop in
     let args = c .before .before .before .before .before .before .before .before .before .args in
     let shared-slice-known2 = c .before .before .before .shared-slice-known2 in
-    let less : reach .result - (loop .at + 1) ≡ reach .result - loop .at - 1 = omega arith in (omega arith, loop .inv .1, omega (arith, ap (λ (a : Mark). a .at) (c .push .ensures)), rw (c .push .ensures, less) (sym (skipped-step (args .key) (args .first) (args .input .now) (loop .mark) (reach .result - loop .at) (loop .at) (omega arith) (omega arith) (shared-slice-known2 .given (loop .at) .fits) (c .before .if1 .left)) ∙ loop .inv .3))
+    let less : reach .result - (loop .at + 1) ≡ reach .result - loop .at - 1 = omega arith in (omega arith, loop .inv .1, omega (arith, ap (λ (a : Mark). a .at) (c .next-mark .ensures)), rw (c .next-mark .ensures, less) (sym (skipped-step (args .key) (args .first) (args .input .now) (loop .mark) (reach .result - loop .at) (loop .at) (omega arith) (omega arith) (shared-slice-known2 .given (loop .at) .fits) (c .before .if1 .left)) ∙ loop .inv .3))
 
 returns-2 : tie.Need-returns-2 Inv-loop μ-loop
 returns-2 c =
@@ -76,7 +77,7 @@ skip-spec =
     shared-slice-read-byte
     cast-if1
     returns
-    push-requires
+    next-mark-requires
     add-at
     loop-less
     loop-again

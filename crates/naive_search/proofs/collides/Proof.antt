@@ -2,7 +2,7 @@
 use Prim.Native.Nat.{_-_, _≤_}
 use mathlib.Core.Path.{_≡_, sym, _∙_}
 use native.Mathlib.Omega.{arith}
-use lib.ListN.{length, take}
+use lib.ListN.{length}
 use borrow.Author.Needs.{needs}
 use Rattle.naive_search.proofs.Collisions.{Tried, tried-first, tried-next, tried-collision, tried-whole}
 use Rattle.naive_search.proofs.Decided.{never, decides-yes}

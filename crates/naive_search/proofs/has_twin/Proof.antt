@@ -4,10 +4,9 @@ use mathlib.Core.Path.{_≡_, sym, ap, _∙_}
 use native.Mathlib.Omega.{arith}
 use lib.ListN.{length, take}
 use borrow.Author.Needs.{needs}
-use Rattle.fingerprint.specs.Fingerprint.{fp}
+use Rattle.fingerprint.specs.Fingerprint.{fp, numberedKey, printNumber}
 use Rattle.naive_search.proofs.Decided.{never, decides-no, decides-yes}
 use Rattle.naive_search.proofs.Twins.{Slid, slid-first, slid-next, slid-print, last-twin}
-use Rattle.naive_search.specs.Search.{keyed}
 use Rattle.naive_search.proofs.has_twin.Statement.{statement}
 use Rattle.naive_search.proofs.has_twin.Tie as tie
 
@@ -48,7 +47,7 @@ loop-holds c =
     let e : length (x .block .now) - 0 ≡ length (x .block .now) = omega arith in (
       omega arith,
       slid-first (x .key) (x .block .now) (x .stream .now) (length (x .block .now)) (c .print-of2 .result)
-          (c .print-of2 .ensures ∙ ap (λ (k : ℕ). fp (keyed (x .key)) (take k (x .stream .now)) .value) e),
+          (c .print-of2 .ensures ∙ ap (λ (k : ℕ). printNumber (fp (numberedKey (x .key)) (take k (x .stream .now)))) e),
     )
 
 cut-requires : tie.Need-cut-requires Inv-loop μ-loop

@@ -1,15 +1,15 @@
 -- `naive_search::more` meets its contract: the product of two numbers of 32 bits and a byte fit 64. Assumes nothing.
 use native.Mathlib.Omega.{arith}
 use borrow.Author.Needs.{needs}
-use Rattle.fingerprint.proofs.Modular.{product-at-most}
+use Rattle.fingerprint.proofs.Modular.{product-wide}
 use Rattle.naive_search.proofs.more.Statement.{statement}
 use Rattle.naive_search.proofs.more.Tie as tie
 
 mul-sum : tie.Need-mul-sum
-mul-sum c = let x = c .args in omega (arith, product-at-most {a = x .print} {b = x .key} 4294967295 4294967295 (omega arith) (omega arith))
+mul-sum c = let x = c .args in omega (arith, product-wide {a = x .print} {b = x .key} (omega arith) (omega arith))
 
 add-sum : tie.Need-add-sum
-add-sum c = let x = c .args in omega (arith, product-at-most {a = x .print} {b = x .key} 4294967295 4294967295 (omega arith) (omega arith))
+add-sum c = let x = c .args in omega (arith, product-wide {a = x .print} {b = x .key} (omega arith) (omega arith))
 
 cast-result : tie.Need-cast-result
 cast-result c = search needs

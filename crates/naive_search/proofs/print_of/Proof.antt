@@ -6,15 +6,13 @@ use native.Mathlib.Omega.{arith}
 use lib.ListN.{getD, length, take}
 use lib.Seq.{take-length}
 use borrow.Author.Needs.{needs}
-use Rattle.fingerprint.specs.Fingerprint.{pushed, extended, fp}
-use Rattle.fingerprint.specs.declared.Fingerprint.{Fingerprint}
+use Rattle.fingerprint.specs.Fingerprint.{pushed, extended, fp, numberedKey, printNumber, numberedPrint}
 use Rattle.naive_search.proofs.Bytes.{fp-front}
-use Rattle.naive_search.specs.Search.{valued, keyed}
 use Rattle.naive_search.proofs.print_of.Statement.{statement}
 use Rattle.naive_search.proofs.print_of.Tie as tie
 
 abbrev Inv-loop : tie.InvT-loop
-Inv-loop block key print₀ i₀ print i = (i ≤ length block) × (print ≡ fp (keyed key) (take i block) .value)
+Inv-loop block key print₀ i₀ print i = (i ≤ length block) × (print ≡ printNumber (fp (numberedKey key) (take i block)))
 
 abbrev μ-loop : tie.MeasureT-loop
 μ-loop block key print₀ i₀ print i = length block - i
@@ -41,8 +39,8 @@ loop-again c =
     let i = c .before .before .before .loop .i in (
       omega arith,
       c .more .ensures
-          ∙ ap (λ (f : ℕ). pushed (keyed (x .key)) (valued f) (getD (x .block .now) i 0) .value) (c .before .before .before .loop .inv .1)
-          ∙ ap (λ (f : Fingerprint). f .value) (sym (fp-front (keyed (x .key)) (x .block .now) i (omega arith))),
+          ∙ ap (λ (f : ℕ). printNumber (pushed (numberedKey (x .key)) (numberedPrint f) (getD (x .block .now) i 0))) (c .before .before .before .loop .inv .1)
+          ∙ ap printNumber (sym (fp-front (numberedKey (x .key)) (x .block .now) i (omega arith))),
     )
 
 returns : tie.Need-returns Inv-loop μ-loop
@@ -50,8 +48,8 @@ returns c =
     let x = c .before .before .before .args in
     let e : c .before .loop .i ≡ length (x .block .now) = omega arith in
     c .before .loop .inv .1
-    ∙ ap (λ (i : ℕ). fp (keyed (x .key)) (take i (x .block .now)) .value) e
-    ∙ ap (λ (l : List ℕ). fp (keyed (x .key)) l .value) (take-length (x .block .now))
+    ∙ ap (λ (i : ℕ). printNumber (fp (numberedKey (x .key)) (take i (x .block .now)))) e
+    ∙ ap (λ (l : List ℕ). printNumber (fp (numberedKey (x .key)) l)) (take-length (x .block .now))
 
 pub print-of-spec : {M : Type 1} → statement M
 print-of-spec =

@@ -1,6 +1,5 @@
 -- `report::behind_front` meets its contract.
 use borrow.Author.Tests.{lt-ltb, le-ltb}
-use borrow.Author.Needs.{needs}
 use Rattle.report.proofs.behind_front.Statement.{statement}
 use Rattle.report.proofs.behind_front.Tie as tie
 

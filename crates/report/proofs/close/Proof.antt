@@ -1,8 +1,7 @@
 -- `report::close` meets its contract: the last lines are written from the buffer's front, and counted.
-use Prim.Native.Nat.{_≤_, _+_}
+use Prim.Native.Nat.{_+_}
 use mathlib.Core.Path.{_≡_, refl, sym, _∙_, ap}
 use native.Mathlib.Omega.{arith}
-use lib.ListN.{length}
 use lib.Seq.{length-take-le}
 use Rattle.report_core.proofs.Putting.{PutAt, last-at}
 use Rattle.report.specs.State as state
@@ -13,18 +12,28 @@ use borrow.Author.Needs.{needs}
 use Rattle.report.proofs.close.Statement.{statement}
 use Rattle.report.proofs.close.Tie as tie
 
+-- the places: where the last lines were put, and the function's begin
+abbrev finished : tie.After-put → tie.After-finish
+finished c = c .before .before .before .before
+
+abbrev start : tie.After-put → tie.Start
+start c = finished c .before .before .before .before
+
 -- the last lines stand at the buffer's front
 placed :
     (c : tie.After-put)
-    → let a = c .before .before .before .before .before .before .before .before .args in
+    → let a = start c .args in
     PutAt (a .out .now) 0 (lastLines (number (a .s .verdict)) (a .s .progress .matcher .now .at) (a .s .progress .total)) (c .put .given .0 .0)
-    (c .before .before .before .before .finish .last .1 .1 .1 .0)
-placed c = let e = c .before .before .before .before .finish .ensures in last-at _ _ _ _ (sym (c .put .given .1) ∙ e .0) (e .1)
+    (finished c .finish .last .1 .1 .1 .0)
+placed c = let e = finished c .finish .ensures in last-at _ _ _ _ (sym (c .put .given .1) ∙ e .0) (e .1)
 
 -- all of them were written
 counted : (c : tie.After-struct-known) → c .before .before .write .result .count ≡ c .before .before .before .before .before .put .given .0 .0
 counted c =
-    all-written (c .before .before .write .result) (c .before .before .before .before .before .before .before .before .before .finish .last .1 .1 .1 .0) (c .before .before .before .before .before .put .given .0 .0) (placed (c .before .before .before .before .before) .within) (c .before .before .write .ensures) (c .before .if1 .taken)
+    let w = c .before .before .write in
+    let u = c .before .before .before .before .before in
+    all-written (w .result) (finished u .finish .last .1 .1 .1 .0) (u .put .given .0 .0) (placed u .within) (w .ensures)
+    (c .before .if1 .taken)
 
 finish-requires : tie.Need-finish-requires
 finish-requires c κs = search needs
@@ -44,14 +53,15 @@ write-requires c κs = search needs
 add-t14 : tie.Need-add-t14
 add-t14 c =
     let u = c .before .before .before .before .before in
-    omega (arith, counted c, placed u .within, u .before .before .before .before .finish .kept .1 .1 .1 .0, u .before .before .before .before .before .before .before .before .pre .0, u .before .before .before .before .before .before .before .before .pre .1)
+    omega (arith, counted c, placed u .within, finished u .finish .kept .1 .1 .1 .0, start u .pre .0, start u .pre .1)
 
 same-length : tie.Need-same-length
 same-length c = search needs
 
 returns : tie.Need-returns
 returns c =
-    state.written refl refl (ap (λ n. c .before .before .before .before .before .before .before .before .before .before .before .before .before .args .s .written + n) (counted c ∙ placed (c .before .before .before .before .before) .place ∙ omega arith))
+    let u = c .before .before .before .before .before in
+    state.written refl refl (ap (λ n. start u .args .s .written + n) (counted c ∙ placed u .place ∙ omega arith))
 
 enum-told : tie.Need-enum-told
 enum-told c = search needs

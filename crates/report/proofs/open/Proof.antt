@@ -1,7 +1,6 @@
 -- `report::open` meets its contract: the card is judged, and what stands behind it is passed.
-use mathlib.Core.Path.{_≡_, refl, sym, _∙_, ap}
+use mathlib.Core.Path.{ap}
 use native.Mathlib.Omega.{arith}
-use lib.ListN.{length, drop}
 use Rattle.report.proofs.Passing.{all-of}
 use Rattle.report.proofs.Standings.{opened-refused, opened}
 use Rattle.refusal.specs.Number.{number}
@@ -47,8 +46,10 @@ same-length c = search needs
 
 returns-2 : tie.Need-returns-2
 returns-2 c =
-    let begun = c .before .before .before .before .before .before .before .before .before .begin in
-    opened _ _ (begun .ensures) (ap number (c .before .before .before .before .before .before .enum-told2 .given .1)) (c .before .before .before .before .before .before .before .before .before .before .before .before .pre .0) _ (c .before .before .before .before .before .behind-front .ensures) _
+    let f = c .before .before .before .before .before in
+    let b = f .before .before .before .before in
+    let start = b .before .before .before in
+    opened _ _ (b .begin .ensures) (ap number (f .before .enum-told2 .given .1)) (start .pre .0) _ (f .behind-front .ensures) _
     (rw all-of at (c .before .before .pass .ensures))
 
 pub open-spec : {M : Type 1} → statement M

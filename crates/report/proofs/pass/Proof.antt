@@ -17,7 +17,8 @@ use Rattle.report.proofs.pass.Statement.{statement}
 use Rattle.report.proofs.pass.Tie as tie
 
 abbrev Inv-loop : tie.InvT-loop
-Inv-loop s chunk out₀ p₀ next₀ written₀ out p next written = Passing.Along p₀ written₀ chunk p next written × (length out ≡ length out₀)
+Inv-loop s chunk out₀ p₀ next₀ written₀ out p next written =
+    Passing.Along p₀ written₀ chunk p next written × (length out ≡ length out₀)
 
 abbrev μ-loop : tie.MeasureT-loop
 μ-loop s chunk out₀ p₀ next₀ written₀ out p next written = length chunk - next
@@ -51,10 +52,15 @@ module _ (c : tie.After-feed Inv-loop μ-loop) where
   taken-within = Passing.taken-within _ _ _ _ _ _ (head c .loop .inv .0) more _ size _ _ feeds kept
 
 -- what was written is what the call of feed put into the buffer
-counted : (c : tie.After-struct-known2 Inv-loop μ-loop) → c .before .before .before .before .write .result .count ≡ c .before .before .before .before .before .before .before .before .feed .result .used
+counted :
+    (c : tie.After-struct-known2 Inv-loop μ-loop)
+    → let w = c .before .before .before .before in
+    w .write .result .count ≡ w .before .before .before .before .feed .result .used
 counted c =
-    let f = c .before .before .before .before .before .before .before .before .feed in
-    all-written (c .before .before .before .before .write .result) (f .last .1 .1 .0) (f .result .used) (used-within (c .before .before .before .before .before .before .before .before)) (c .before .before .before .before .write .ensures) (not-false _ (c .before .before .if1 .left))
+    let w = c .before .before .before .before in
+    let f = w .before .before .before .before in
+    all-written (w .write .result) (f .feed .last .1 .1 .0) (f .feed .result .used) (used-within f) (w .write .ensures)
+    (not-false _ (c .before .before .if1 .left))
 
 loop-holds : tie.Need-loop-holds Inv-loop μ-loop
 loop-holds c = (Passing.along-begin _ _ _ (c .before .before .before .pre .0), refl)
@@ -105,7 +111,10 @@ returns-2 : tie.Need-returns-2 Inv-loop μ-loop
 returns-2 c =
     let f = c .before .before .before .before .before .before .before .before .before .before in
     let n = refused-some (c .enum-told .given .1) in
-    refused (Passing.refused _ _ _ _ _ _ (head f .loop .inv .0) (more f) _ (size f) _ _ (feeds f) (kept f) _ n refl refl (ap (λ n. head f .loop .written + n) (counted (c .before .before)))) refl n refl
+    let all = ap (λ k. head f .loop .written + k) (counted (c .before .before)) in
+    refused
+    (Passing.refused _ _ _ _ _ _ (head f .loop .inv .0) (more f) _ (size f) _ _ (feeds f) (kept f) _ n refl refl all)
+    refl n refl
 
 enum-told-2 : tie.Need-enum-told-2 Inv-loop μ-loop
 enum-told-2 c = search needs
@@ -113,13 +122,16 @@ enum-told-2 c = search needs
 loop-less : tie.Need-loop-less Inv-loop μ-loop
 loop-less c =
     let f = c .before .before .before .before .before .before .before .before .before .before in
-    let m = Passing.moves _ _ _ _ _ _ (head f .loop .inv .0) (more f) _ (size f) _ _ (feeds f) (kept f) (ap number (c .enum-told2 .given .1)) in
+    let accepted = ap number (c .enum-told2 .given .1) in
+    let m = Passing.moves _ _ _ _ _ _ (head f .loop .inv .0) (more f) _ (size f) _ _ (feeds f) (kept f) accepted in
     omega (arith, more f, taken-within f)
 
 loop-again : tie.Need-loop-again Inv-loop μ-loop
 loop-again c =
-    let f = c .before .before .before .before .before .before .before .before .before .before in (
-      rw (counted (c .before .before)) (Passing.on _ _ _ _ _ _ (head f .loop .inv .0) (more f) _ (size f) _ _ (feeds f) (kept f) (ap number (c .enum-told2 .given .1))),
+    let f = c .before .before .before .before .before .before .before .before .before .before in
+    let accepted = ap number (c .enum-told2 .given .1) in (
+      rw (counted (c .before .before))
+          (Passing.on _ _ _ _ _ _ (head f .loop .inv .0) (more f) _ (size f) _ _ (feeds f) (kept f) accepted),
       kept f ∙ head f .loop .inv .1,
     )
 

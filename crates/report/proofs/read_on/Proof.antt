@@ -1,10 +1,10 @@
 -- `report::read_on` meets its contract: each turn keeps what was written the output of what was read, and brings t nearer to its limit.
-use Prim.Native.Nat.{_^_, _<_}
+use Prim.Native.Nat.{_≤_}
 use mathlib.Core.Path.{_≡_, refl, sym, _∙_}
 use native.Mathlib.Omega.{arith}
 use lib.ListN.{length}
+use Rattle.stage.specs.Stage.{maxTaken}
 use Rattle.report.specs.State.{Stands}
-use Rattle.report.specs.State as state
 use Rattle.report.proofs.Standings.{distance, turned, nearer, reading}
 use mathlib.Core.List.{[], _∷_}
 use types.Run.{miss}
@@ -14,7 +14,12 @@ use Rattle.report.proofs.read_on.Statement.{statement}
 use Rattle.report.proofs.read_on.Tie as tie
 
 abbrev Inv-loop : tie.InvT-loop
-Inv-loop input₀ out₀ s₀ status₀ input out s status = Stands s × (status ≡ s .status) × (length input ≡ length input₀) × (length out ≡ length out₀) × (s .progress .matcher .now .at < 2 ^ 32)
+Inv-loop input₀ out₀ s₀ status₀ input out s status =
+    Stands s
+    × (status ≡ s .status)
+    × (length input ≡ length input₀)
+    × (length out ≡ length out₀)
+    × (s .progress .matcher .now .at ≤ maxTaken)
 
 abbrev μ-loop : tie.MeasureT-loop
 μ-loop input₀ out₀ s₀ status₀ input out s status = distance status (s .progress .matcher .now .at)

@@ -1,10 +1,8 @@
 -- `report::run` meets its contract: the front, the chunks, and the last lines.
-use mathlib.Core.Path.{_≡_, refl, sym, _∙_}
+use mathlib.Core.Path.{refl, sym, _∙_}
 use mathlib.Core.List.{[], _∷_}
-use native.Mathlib.Omega.{arith}
 use lib.ListN.{take}
 use types.Run.{miss}
-use Rattle.report.specs.declared.Status.the-variants.{Ended}
 use Rattle.report.specs.State as state
 use Rattle.report.proofs.Standings.{nothing, closed, ending, broken}
 use borrow.Author.Needs.{needs}
@@ -39,13 +37,18 @@ enum-told c = search needs
 
 close-requires : tie.Need-close-requires
 close-requires c κs =
-    let r = c .before .before .before .before .before .before .before .read-on in (
-      ending _ (c .before .enum-told .given .1) (r .ensures .0 .1) .few,
-      c .before .before .before .before .before .before .before .before .before .before .before .before .before .before .before .before .before .before .before .before .before .before .before .pre .1 ∙ sym (r .kept .1 .1 .0 ∙ c .before .before .before .before .before .before .before .before .before .before .before .before .«open» .kept .1 .0),
+    let r = c .before .before .before .before .before .before .before in
+    let o = r .before .before .before .before .before in
+    let start = o .before .before .before .before .before .before .before .before .before .before .before in (
+      ending _ (c .before .enum-told .given .1) (r .read-on .ensures .0 .1) .few,
+      start .pre .1 ∙ sym (r .read-on .kept .1 .1 .0 ∙ o .«open» .kept .1 .0),
     )
 
 same-length-2 : tie.Need-same-length-2
-same-length-2 c = c .before .before .before .before .before .before .before .before .before .before .read-on .kept .1 .0 ∙ c .before .before .before .before .before .before .before .before .before .before .before .before .before .before .before .before .before .before .before .before .before .before .read-front .kept .0
+same-length-2 c =
+    let r = c .before .before .before .before .before .before .before .before .before .before in
+    let f = r .before .before .before .before .before .before .before .before .before .before .before .before in
+    r .read-on .kept .1 .0 ∙ f .read-front .kept .0
 
 same-length-3 : tie.Need-same-length-3
 same-length-3 c = search needs

@@ -1,5 +1,5 @@
 -- `report::turn` meets its contract: a chunk that was read is counted, and then passed.
-use mathlib.Core.Path.{_≡_, refl, sym, _∙_}
+use mathlib.Core.Path.{refl}
 use native.Mathlib.Omega.{arith}
 use Rattle.report.proofs.Standings.{ends, passes}
 use Rattle.report.specs.State as state

@@ -52,7 +52,9 @@ module _ (c : tie.After-put Inv-loop μ-loop) where
       PutAt (head scanning .loop .out) (head scanning .loop .used)
       (reportLines (scanning .scan .result .matcher .now .at) (scanning .scan .result .answer))
       (c .put .given .0 .0) (c .before .before .before .before .put-report .last .0)
-  lines = put-at _ _ _ _ (c .before .before .before .before .put-report .ensures .1) _ (sym (c .put .given .1) ∙ c .before .before .before .before .put-report .ensures .0)
+  lines =
+      let e = c .before .before .before .before .put-report .ensures in
+      put-at _ _ _ _ (e .1) _ (sym (c .put .given .1) ∙ e .0)
 
   roomy : hasRoom (head scanning .loop .out) (head scanning .loop .used) ≡ true
   roomy = put-room _ _ _ _ (sym (c .put .given .1) ∙ c .before .before .before .before .put-report .ensures .0)
@@ -92,33 +94,40 @@ enum-told : tie.Need-enum-told Inv-loop μ-loop
 enum-told c = search needs
 
 same-length : tie.Need-same-length Inv-loop μ-loop
-same-length c = c .before .before .before .before .put-report .kept .0 ∙ c .before .before .before .before .before .before .before .before .before .before .before .loop .inv .size
+same-length c =
+    let u = c .before .before .before .before in
+    u .put-report .kept .0 ∙ u .before .before .before .before .before .before .before .loop .inv .size
 
 returns-3 : tie.Need-returns-3 Inv-loop μ-loop
 returns-3 c =
     let e = c .before .before .before .before .put-report .ensures in
-    let l = c .before .before .before .before .before .before .before .before .before .before .before in
+    let t = c .before .before .before .before .before .before .before .before .before .before in
+    let l = t .before in
     let none = put-none _ _ _ _ (e .1) (sym (c .enum-told .given .1) ∙ e .0) in
-    rw (none .1, begun l) (full _ _ _ _ _ _ _ (l .loop .inv) (c .before .before .before .before .before .before .before .before .before .before .loop-test .taken) (none .0))
+    rw (none .1, begun l) (full _ _ _ _ _ _ _ (l .loop .inv) (t .loop-test .taken) (none .0))
 
 add-total : tie.Need-add-total Inv-loop μ-loop
 add-total c =
     let u = c .before .before .before in
     let s = scanning u in
-    omega (arith, on-fits _ _ _ _ _ _ _ (head s .loop .inv) (more u) (s .scan .result) (s .scan .ensures) _ _ (lines u) (roomy u), c .struct-known2 .given)
+    let fits = on-fits _ _ _ _ _ _ _ (head s .loop .inv) (more u) (s .scan .result) (s .scan .ensures) _ _ (lines u) (roomy u) in
+    omega (arith, fits, c .struct-known2 .given)
 
 enum-told-2 : tie.Need-enum-told-2 Inv-loop μ-loop
 enum-told-2 c = search needs
 
 same-length-2 : tie.Need-same-length-2 Inv-loop μ-loop
-same-length-2 c = c .before .before .before .before .before .before .before .before .before .put-report .kept .0 ∙ c .before .before .before .before .before .before .before .before .before .before .before .before .before .before .before .before .loop .inv .size
+same-length-2 c =
+    let u = c .before .before .before .before .before .before .before .before .before in
+    u .put-report .kept .0 ∙ u .before .before .before .before .before .before .before .loop .inv .size
 
 returns-4 : tie.Need-returns-4 Inv-loop μ-loop
 returns-4 c =
     let u = c .before .before .before .before .before in
     let s = scanning u in
+    let some = refused-some (c .enum-told2 .given .1) in
     rw (begun (head s))
-    (refused _ _ _ _ _ _ _ (head s .loop .inv) (more u) (s .scan .result) (s .scan .ensures) _ _ (lines u) (roomy u) (refused-some (c .enum-told2 .given .1)))
+    (refused _ _ _ _ _ _ _ (head s .loop .inv) (more u) (s .scan .result) (s .scan .ensures) _ _ (lines u) (roomy u) some)
 
 enum-told-3 : tie.Need-enum-told-3 Inv-loop μ-loop
 enum-told-3 c = search needs
@@ -128,7 +137,8 @@ loop-less c =
     let u = c .before .before .before .before .before in
     let s = scanning u in
     let accepted = ap number (c .enum-told3 .given .1) in
-    let moves = on-moves _ _ _ _ _ _ _ (head s .loop .inv) (more u) (s .scan .result) (s .scan .ensures) _ _ (lines u) (roomy u) accepted in
+    let moves =
+    on-moves _ _ _ _ _ _ _ (head s .loop .inv) (more u) (s .scan .result) (s .scan .ensures) _ _ (lines u) (roomy u) accepted in
     omega (arith, more u)
 
 loop-again : tie.Need-loop-again Inv-loop μ-loop
@@ -136,7 +146,8 @@ loop-again c =
     let u = c .before .before .before .before .before in
     let s = scanning u in
     let accepted = ap number (c .enum-told3 .given .1) in
-    on _ _ _ _ _ _ _ (head s .loop .inv) (more u) (s .scan .result) (s .scan .ensures) _ _ (lines u) (roomy u) (u .before .before .before .before .put-report .kept .0) accepted
+    let kept = u .before .before .before .before .put-report .kept .0 in
+    on _ _ _ _ _ _ _ (head s .loop .inv) (more u) (s .scan .result) (s .scan .ensures) _ _ (lines u) (roomy u) kept accepted
 
 same-length-3 : tie.Need-same-length-3 Inv-loop μ-loop
 same-length-3 c = c .before .loop .inv .size

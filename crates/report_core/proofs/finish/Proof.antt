@@ -1,9 +1,8 @@
 -- `report_core::finish` meets its contract: one line, or the refusal's and the last behind it, and the buffer as it was where there is no room.
-use Prim.Native.Nat.{ℕ, _*_, _≤_}
+use Prim.Native.Nat.{ℕ}
 use mathlib.Core.Path.{_≡_, sym, _∙_, ap}
 use native.Mathlib.Omega.{arith}
-use lib.ListN.{length}
-use Rattle.report_lines.specs.Lines.{lineX, room}
+use Rattle.report_lines.specs.Lines.{lineX}
 use Rattle.refusal.specs.Number.{number}
 use Rattle.refusal.proofs.Distinct.{refused-some}
 use Rattle.report_core.proofs.Putting.{placed-next, last-full, last-one, last-two, last-accepted, last-refused}
@@ -30,7 +29,8 @@ returns-2 : tie.Need-returns-2
 returns-2 c =
     let e = c .before .before .put-end .ensures in
     let a = c .before .before .before .before .before .before .before .before .args in
-    rw (last-accepted (a .verdict) (a .t) (a .total) (c .before .before .before .before .enum-told .given .1)) (last-one _ (omega arith) _ _ _ (e .0) (e .1))
+    rw (last-accepted (a .verdict) (a .t) (a .total) (c .before .before .before .before .enum-told .given .1))
+    (last-one _ (omega arith) _ _ _ (e .0) (e .1))
 
 number-requires : tie.Need-number-requires
 number-requires c κs = search needs
@@ -50,7 +50,8 @@ same-length-2 c = search needs
 returns-3 : tie.Need-returns-3
 returns-3 c =
     let u = c .before .before .before .before in
-    let fits = placed-next (u .before .before .before .before .before .before .before .before .args .out .now) 0 (lineX (u .before .number .result)) (omega arith) in
+    let a = u .before .before .before .before .before .before .before .before .args in
+    let fits = placed-next (a .out .now) 0 (lineX (u .before .number .result)) (omega arith) in
     let z : _≡_ {A = ℕ} 0 1 = cc (fits, u .put-refusal .ensures .0, c .enum-told2 .given .1) in
     absurd (omega arith)
 

@@ -1,27 +1,35 @@
 -- `report_lines::put_item` meets its contract: a space, and the digits behind it.
-use mathlib.Core.Path.{_∙_}
 use native.Mathlib.Omega.{arith}
 use lib.ListN.{length-set}
 use borrow.Author.Needs.{needs}
-use Rattle.report_lines.proofs.Storing.{byte, run, same-size}
+use Rattle.report_lines.specs.Lines.{item}
+use Rattle.report_lines.specs.Stored.{mostItem, Stored}
+use Rattle.report_lines.proofs.Storing.{byte, number, run, same-size}
 use Rattle.report_lines.proofs.put_item.Statement.{statement}
 use Rattle.report_lines.proofs.put_item.Tie as tie
 
 slice-write-buf : tie.Need-slice-write-buf
 slice-write-buf c = search needs
 
-add-put-number : tie.Need-add-put-number
-add-put-number c = search needs
+add-put : tie.Need-add-put
+add-put c = search needs
 
-put-number-requires : tie.Need-put-number-requires
-put-number-requires c κs = simp length-set (omega arith)
+put-requires : tie.Need-put-requires
+put-requires c κs = search needs
+
+-- the digits are stored, and the space before them
+stored :
+    (c : tie.After-put)
+    → let a = c .before .before .before .args in
+    Stored (a .buf .now) (a .at) (item (a .n)) mostItem (c .put .result) (c .put .last .0)
+stored c = run (byte _ _ _) (number (omega arith) (simp length-set (omega arith)) (c .put .ensures .0) (c .put .ensures .1))
 
 same-length : tie.Need-same-length
-same-length c = same-size (c .before .before .put-number .ensures) ∙ simp length-set
+same-length c = same-size (stored (c .before .before))
 
 returns : tie.Need-returns
-returns c = run (byte _ _ _) (c .before .before .put-number .ensures)
+returns c = stored (c .before .before)
 
 pub put-item-spec : {M : Type 1} → statement M
 put-item-spec =
-    tie.close (tie.spec slice-write-buf add-put-number put-number-requires same-length returns)
+    tie.close (tie.spec slice-write-buf add-put put-requires same-length returns)

@@ -1,14 +1,16 @@
 -- `report_lines::put_report` meets its contract: the lines of the sets passed stand behind the ring's.
 use Prim.Native.Nat.{ℕ, _+_, _-_, _*_, _≤_, min}
 use mathlib.Core.Path.{_≡_, sym, _∙_}
-use mathlib.Core.List.{List, map, flatMap}
+use mathlib.Core.List.{List, flatMap}
 use native.Mathlib.Nat.{min-eq-left}
 use native.Mathlib.Decide.{decLe}
 use native.Mathlib.Omega.{arith}
 use borrow.Author.Needs.{needs}
 use borrow.Author.Tests.{leb-true, leb-false, not-true, not-false}
-use lib.ListN.{length, take, length-map}
+use lib.ListN.{length, take}
 use lib.Seq.{take-all}
+use Rattle.lists.proofs.Laws.{counted-elements}
+use Rattle.stage.specs.Stages.{stageCount}
 use Rattle.report_lines.specs.Lines.{lineA, reportLines, room}
 use Rattle.report_lines.specs.Stored.{mostLine, Stored}
 use Rattle.report_lines.proofs.Storing.{nothing, run, run-more, at-most, same-size, finish, refuse}
@@ -34,13 +36,9 @@ take-capped n l =
       | no k ↦ take-all (min n (length l)) l (omega arith) ∙ sym (take-all n l (omega arith))
     ]
 
--- a list has as many elements as what stands for them
-counted-elements : {A B : Type 0} (f : A → B) (l : List A) (n : ℕ) → length (map f l) ≡ n → length l ≡ n
-counted-elements f l n e = sym (length-map l f) ∙ e
-
--- the sets of an answer are twenty
-twenty : (c : tie.Start Inv-loop μ-loop) → length (c .args .t4 .sets) ≡ 20
-twenty c = search (counted-elements, needs)
+-- an answer has a set for each place of a stage
+places : (c : tie.Start Inv-loop μ-loop) → length (c .args .t4 .sets) ≡ stageCount
+places c = search (counted-elements, needs)
 
 -- the stores keep the buffer's length
 size :
@@ -84,7 +82,7 @@ loop-less c = omega arith
 loop-again : tie.Need-loop-again Inv-loop μ-loop
 loop-again c =
     let d = c .before .before .before .before .before .before in
-    let sets = twenty (d .before .before .before .before .before .before .before .before .before) in
+    let sets = places (d .before .before .before .before .before .before .before .before .before) in
     let turn = run-more (lineA _) _ (d .loop .i) _ (omega arith) (d .loop .inv .1) (c .before .before .put-aside .ensures) in
     (omega arith, at-most (omega arith) turn)
 
@@ -97,7 +95,7 @@ returns-2 c =
     let d = c .before in
     let start = d .before .before .before .before .before .before .before .before .before in
     let a = start .args .t4 in
-    let passed : d .loop .i ≡ min (a .asides) (length (a .sets)) = omega (arith, twenty start) in
+    let passed : d .loop .i ≡ min (a .asides) (length (a .sets)) = omega (arith, places start) in
     let sets = rw (passed, take-capped (a .asides) (a .sets)) at (d .loop .inv .1) in
     finish (has (d .before .before .before .before .before .before)) (run (d .before .before .before .before .put-ring .ensures) sets)
     (omega arith)

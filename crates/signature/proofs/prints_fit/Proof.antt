@@ -3,7 +3,7 @@ use borrow.Author.Needs.{needs}
 use Prim.Native.Nat.{_-_, _≤_}
 use mathlib.Core.Path.{_≡_, sym, _∙_}
 use mathlib.Core.Bool.{true, false}
-use borrow.Author.Tests.{lt-leb, le-leb, not-true, not-false}
+use borrow.Author.Tests.{not-true, not-false}
 use Rattle.lists.specs.Lists.{every}
 use Rattle.lists.proofs.Laws.{every-more, every-fails, every-none}
 use Rattle.signature.specs.Signature.{placeFits, printsFit}
@@ -20,9 +20,12 @@ abbrev μ-loop : tie.MeasureT-loop
 array-copy-out-first : tie.Need-array-copy-out-first Inv-loop μ-loop
 array-copy-out-first c = search needs
 
+is-of-byte-requires : tie.Need-is-of-byte-requires Inv-loop μ-loop
+is-of-byte-requires c κs = search needs
+
 returns : tie.Need-returns Inv-loop μ-loop
 unfolding printsFit
-returns c = rw (lt-leb _ _ (c .if1 .taken))
+returns c = rw (← c .before .is-of-byte .ensures, not-true (c .before .is-of-byte .result) (c .if1 .taken))
 
 levels-requires : tie.Need-levels-requires Inv-loop μ-loop
 levels-requires c κs = search needs
@@ -53,7 +56,8 @@ returns-2 c =
     let fails : placeFits (a .m) (a .taken) (a .t1) i ≡ false =
     rw (← c .before .before .reaches .ensures) (sym (c .before .place-fits .ensures) ∙ not-true _ (c .if2 .taken))
     in
-    rw (le-leb _ _ (c .before .before .before .before .before .before .before .if1 .left), every-fails (placeFits (a .m) (a .taken) (a .t1)) 21 i (c .before .before .before .before .loop-test .taken) fails)
+    let start = c .before .before .before .before .before .before .before in
+    rw (← start .before .is-of-byte .ensures, not-false (start .before .is-of-byte .result) (start .if1 .left), every-fails (placeFits (a .m) (a .taken) (a .t1)) 21 i (c .before .before .before .before .loop-test .taken) fails)
 
 add-i : tie.Need-add-i Inv-loop μ-loop
 add-i c = search needs
@@ -74,7 +78,8 @@ returns-3 : tie.Need-returns-3 Inv-loop μ-loop
 unfolding printsFit
 returns-3 c =
     let end : c .before .loop .i ≡ 21 = omega arith in
-    rw (le-leb _ _ (c .before .before .before .if1 .left), sym (rw end at (c .before .loop .inv .1)))
+    let start = c .before .before .before in
+    rw (← start .before .is-of-byte .ensures, not-false (start .before .is-of-byte .result) (start .if1 .left)) (sym (rw end at (c .before .loop .inv .1)))
 
 pub prints-fit-spec : {M : Type 1} → statement M
 prints-fit-spec =
@@ -83,6 +88,7 @@ prints-fit-spec =
     Inv-loop
     μ-loop
     array-copy-out-first
+    is-of-byte-requires
     returns
     levels-requires
     loop-holds

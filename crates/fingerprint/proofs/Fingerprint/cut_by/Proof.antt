@@ -1,15 +1,20 @@
--- `fingerprint::Fingerprint::cut_by` meets its contract.
+-- `fingerprint::Fingerprint::cut_by` meets its contract: the product of two 32-bit numbers fits 64 bits.
 use borrow.Author.Needs.{needs}
 use native.Mathlib.Omega.{arith}
-use Rattle.fingerprint.proofs.Modular.{product-at-most}
+use Rattle.fingerprint.proofs.Modular.{product-wide}
 use Rattle.fingerprint.proofs.Fingerprint.cut_by.Statement.{statement}
 use Rattle.fingerprint.proofs.Fingerprint.cut_by.Tie as tie
 
 cast-past : tie.Need-cast-past
 cast-past c = search needs
 
+cast-past-2 : tie.Need-cast-past-2
+cast-past-2 c = search needs
+
 mul-past : tie.Need-mul-past
-mul-past c = omega (arith, product-at-most {a = c .before .args .front .value} {b = c .before .args .shift} 4294967295 4294967295 (omega arith) (omega arith))
+mul-past c =
+    let a = c .before .before .args in
+    omega (arith, product-wide {a = a .front .value} {b = a .shift .value} (omega arith) (omega arith))
 
 cast-sum : tie.Need-cast-sum
 cast-sum c = search needs
@@ -27,4 +32,4 @@ returns : tie.Need-returns
 returns c = search needs
 
 pub cut-by-spec : {M : Type 1} → statement M
-cut-by-spec = tie.close (tie.spec cast-past mul-past cast-sum sub-sum add-sum cast-t9 returns)
+cut-by-spec = tie.close (tie.spec cast-past cast-past-2 mul-past cast-sum sub-sum add-sum cast-t9 returns)

@@ -5,7 +5,7 @@ use mathlib.Core.Path.{refl, sym, _∙_}
 use native.Mathlib.Omega.{arith}
 use borrow.Author.Tests.{not-true, not-false}
 use lib.ListN.{length}
-use Rattle.matcher.proofs.Rounds.{ready}
+use Rattle.matcher.proofs.Sound.{sound, card-of, stages-fit}
 use Rattle.matcher.proofs.Running.{Running, run-begin, run-end, run-spent, run-report, run-count, run-step, run-skip}
 use Rattle.matcher.proofs.Matcher.run.Statement.{statement}
 use Rattle.matcher.proofs.Matcher.run.Tie as tie
@@ -35,7 +35,8 @@ passed c =
 
 -- the card's length is one that a card can have
 shifts-requires : tie.Need-shifts-requires Inv-loop μ-loop
-shifts-requires c κs = ready (c .before .before .before .before .args .self) (c .before .before .before .before .pre .0) .high
+shifts-requires c κs =
+    card-of (sound (c .before .before .before .before .args .self) (c .before .before .before .before .pre .0)) .short
 
 element-copy-out-first : tie.Need-element-copy-out-first Inv-loop μ-loop
 element-copy-out-first c = search needs
@@ -49,8 +50,8 @@ loop-holds c =
 quiet-until-requires : tie.Need-quiet-until-requires Inv-loop μ-loop
 quiet-until-requires c κs =
     let args = c .before .before .before .before .before .before .before .before .before .args in
-    let q = ready (record { signature = args .self .signature; now = c .before .loop .now; stages = c .before .loop .stages }) (c .before .loop .inv .fits) in
-    (q .low, q .high)
+    let q = sound (record { signature = args .self .signature; now = c .before .loop .now; stages = c .before .loop .stages }) (c .before .loop .inv .fits) in
+    (card-of q .long, card-of q .short)
 
 skip-requires : tie.Need-skip-requires Inv-loop μ-loop
 skip-requires c κs = c .before .before .loop .inv .within
@@ -80,11 +81,11 @@ returns c =
     rw (c .silent .ensures)
     (run-spent (args .self) (args .input .now) (args .from) _ _ _ (passed (c .before .before .before .before)) (if1 .taken) (c .before .if2 .taken))
 
-shared-slice-read-push : tie.Need-shared-slice-read-push Inv-loop μ-loop
-shared-slice-read-push c = c .before .before .before .if1 .taken
+shared-slice-read-next-mark : tie.Need-shared-slice-read-next-mark Inv-loop μ-loop
+shared-slice-read-next-mark c = c .before .before .before .if1 .taken
 
-push-requires : tie.Need-push-requires Inv-loop μ-loop
-push-requires c κs = omega arith
+next-mark-requires : tie.Need-next-mark-requires Inv-loop μ-loop
+next-mark-requires c κs = omega arith
 
 add-at-2 : tie.Need-add-at-2 Inv-loop μ-loop
 add-at-2 c = omega (arith, c .before .before .before .before .if1 .taken)
@@ -92,8 +93,8 @@ add-at-2 c = omega (arith, c .before .before .before .before .if1 .taken)
 climb-requires : tie.Need-climb-requires Inv-loop μ-loop
 climb-requires c κs =
     let shifts = c .before .before .before .before .before .before .before .before .before .before .before .before .shifts in
-    let q = ready _ (passed (c .before .before .before .before .before) .fits) in
-    rw (c .push .ensures) (q .low, q .high, shifts .ensures, refl, q .stages)
+    let q = sound _ (passed (c .before .before .before .before .before) .fits) in
+    rw (c .next-mark .ensures) (card-of q .long, card-of q .short, shifts .ensures, refl, stages-fit _ q)
 
 cast-comparisons-2 : tie.Need-cast-comparisons-2 Inv-loop μ-loop
 cast-comparisons-2 c = search needs
@@ -102,12 +103,12 @@ add-comparisons-2 : tie.Need-add-comparisons-2 Inv-loop μ-loop
 add-comparisons-2 c =
     let if2 = c .before .before .before .before .before .before .if2 in
     let climb = c .before .before .before .climb in
-    let push = c .before .before .before .before .push in
+    let next-mark = c .before .before .before .before .next-mark in
     let args = c .before .before .before .before .before .before .before .before .before .before .before .before .before .before .before .before .before .before .before .before .before .args in
     let if1 = c .before .before .before .before .before .before .before .before .if1 in
     let q = passed (c .before .before .before .before .before .before .before .before .before) in
     let fresh = if2 .left in
-    rw (climb .ensures, push .ensures)
+    rw (climb .ensures, next-mark .ensures)
     (omega (arith, q .few, fresh, run-count (args .self) (args .input .now) (args .from) _ _ _ q (if1 .taken) fresh))
 
 is-silent-requires : tie.Need-is-silent-requires Inv-loop μ-loop
@@ -116,13 +117,13 @@ is-silent-requires c κs = search needs
 returns-2 : tie.Need-returns-2 Inv-loop μ-loop
 returns-2 c =
     let climb = c .before .before .before .before .before .climb in
-    let push = c .before .before .before .before .before .before .push in
+    let next-mark = c .before .before .before .before .before .before .next-mark in
     let args = c .before .before .before .before .before .before .before .before .before .before .before .before .before .before .before .before .before .before .before .before .before .before .before .args in
     let if1 = c .before .before .before .before .before .before .before .before .before .before .if1 in
     let if2 = c .before .before .before .before .before .before .before .before .if2 in
-    rw (climb .ensures, push .ensures)
+    rw (climb .ensures, next-mark .ensures)
     (run-report (args .self) (args .input .now) (args .from) _ _ _ (passed (c .before .before .before .before .before .before .before .before .before .before .before)) (if1 .taken) (if2 .left)
-    (rw (climb .ensures, push .ensures) at (sym (c .before .is-silent .ensures) ∙ not-true _ (c .if3 .taken))))
+    (rw (climb .ensures, next-mark .ensures) at (sym (c .before .is-silent .ensures) ∙ not-true _ (c .if3 .taken))))
 
 loop-less : tie.Need-loop-less Inv-loop μ-loop
 loop-less c = omega (arith, c .before .before .before .before .before .before .before .before .before .before .if1 .taken)
@@ -130,13 +131,13 @@ loop-less c = omega (arith, c .before .before .before .before .before .before .b
 loop-again : tie.Need-loop-again Inv-loop μ-loop
 loop-again c =
     let climb = c .before .before .before .before .before .climb in
-    let push = c .before .before .before .before .before .before .push in
+    let next-mark = c .before .before .before .before .before .before .next-mark in
     let args = c .before .before .before .before .before .before .before .before .before .before .before .before .before .before .before .before .before .before .before .before .before .before .before .args in
     let if1 = c .before .before .before .before .before .before .before .before .before .before .if1 in
     let if2 = c .before .before .before .before .before .before .before .before .if2 in
-    rw (climb .ensures, push .ensures)
+    rw (climb .ensures, next-mark .ensures)
     (run-step (args .self) (args .input .now) (args .from) _ _ _ (passed (c .before .before .before .before .before .before .before .before .before .before .before)) (if1 .taken) (if2 .left)
-    (rw (climb .ensures, push .ensures) at (sym (c .before .is-silent .ensures) ∙ not-false _ (c .if3 .left))))
+    (rw (climb .ensures, next-mark .ensures) at (sym (c .before .is-silent .ensures) ∙ not-false _ (c .if3 .left))))
 
 loop-less-2 : tie.Need-loop-less-2 Inv-loop μ-loop
 loop-less-2 c = omega (arith, c .if1 .left, c .before .before .before .before .loop-test .taken)
@@ -171,8 +172,8 @@ run-spec =
     add-comparisons
     silent-requires
     returns
-    shared-slice-read-push
-    push-requires
+    shared-slice-read-next-mark
+    next-mark-requires
     add-at-2
     climb-requires
     cast-comparisons-2

@@ -3,7 +3,7 @@ use borrow.Author.Needs.{needs}
 use mathlib.Core.Path.{refl, sym, _∙_}
 use borrow.Author.Tests.{not-true, not-false, lt-ltb, le-ltb}
 use Rattle.matcher.specs.Stroke.{strokeAnswer, afterStroke}
-use Rattle.matcher.proofs.Rounds.{ready}
+use Rattle.matcher.proofs.Sound.{sound, card-of, stages-fit}
 use Rattle.matcher.proofs.Matcher.stroke.Statement.{statement}
 use Rattle.matcher.proofs.Matcher.stroke.Tie as tie
 
@@ -27,23 +27,23 @@ returns-2 c =
     let if1 = c .before .before .before .before .if1 in
     rw (← fits2 .ensures, not-false (fits2 .result) (if1 .left), le-ltb _ _ (c .before .if2 .taken)) (refl, (c .none2 .ensures, refl))
 
-push-requires : tie.Need-push-requires
-push-requires c κs = search needs
+next-mark-requires : tie.Need-next-mark-requires
+next-mark-requires c κs = search needs
 
 shifts-requires : tie.Need-shifts-requires
 shifts-requires c κs =
     let args = c .before .before .before .before .before .before .before .before .args in
     let if1 = c .before .before .before .before .before .before .if1 in
     let fits2 = c .before .before .before .before .before .before .before .fits2 in
-    ready (args .self) (sym (fits2 .ensures) ∙ not-false (fits2 .result) (if1 .left)) .high
+    card-of (sound (args .self) (sym (fits2 .ensures) ∙ not-false (fits2 .result) (if1 .left))) .short
 
 climb-requires : tie.Need-climb-requires
 climb-requires c κs =
     let args = c .before .before .before .before .before .before .before .before .before .args in
     let if1 = c .before .before .before .before .before .before .before .if1 in
     let fits2 = c .before .before .before .before .before .before .before .before .fits2 in
-    let q = ready (args .self) (sym (fits2 .ensures) ∙ not-false (fits2 .result) (if1 .left)) in
-    rw (c .before .push .ensures) (q .low, q .high, c .shifts .ensures, refl, q .stages)
+    let q = sound (args .self) (sym (fits2 .ensures) ∙ not-false (fits2 .result) (if1 .left)) in
+    rw (c .before .next-mark .ensures) (card-of q .long, card-of q .short, c .shifts .ensures, refl, stages-fit (args .self) q)
 
 returns-3 : tie.Need-returns-3
 unfolding strokeAnswer afterStroke
@@ -51,14 +51,14 @@ returns-3 c =
     let if1 = c .before .before .before .before .before .before .before .before .before .before .if1 in
     let if2 = c .before .before .before .before .before .before .before .if2 in
     let climb = c .before .before .climb in
-    let push = c .before .before .before .before .push in
+    let next-mark = c .before .before .before .before .next-mark in
     let fits2 = c .before .before .before .before .before .before .before .before .before .before .before .fits2 in
     rw (
       ← fits2 .ensures,
       not-false (fits2 .result) (if1 .left),
       lt-ltb _ _ (if2 .left),
       climb .ensures,
-      push .ensures,
+      next-mark .ensures,
     )
     (refl, (refl, refl))
 
@@ -71,7 +71,7 @@ stroke-spec =
     returns
     none-requires-2
     returns-2
-    push-requires
+    next-mark-requires
     shifts-requires
     climb-requires
     returns-3)

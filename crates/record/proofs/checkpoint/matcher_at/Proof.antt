@@ -4,7 +4,7 @@ use mathlib.Core.Path.{_≡_, sym, _∙_, ap}
 use Rattle.fields.specs.Fields.{valuesAt}
 use Rattle.ladder.specs.Prefix.{levels}
 use Rattle.lists.specs.Lists.{tabulate}
-use Rattle.matcher.specs.Matcher.{stageCount}
+use Rattle.stage.specs.Stages.{stageCount}
 use Rattle.record.specs.Layout.{checkpointWidths, markFrom, stagePlace, matcherAt}
 use Rattle.record.proofs.Positions.{now-place}
 use borrow.Author.Needs.{needs}

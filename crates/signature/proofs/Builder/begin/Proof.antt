@@ -6,26 +6,26 @@ use Rattle.signature.specs.Calls.{begun}
 use Rattle.signature.proofs.Builder.begin.Statement.{statement}
 use Rattle.signature.proofs.Builder.begin.Tie as tie
 
-blank-requires : tie.Need-blank-requires
-blank-requires c κs = search needs
+not-begun-requires : tie.Need-not-begun-requires
+not-begun-requires c κs = search needs
 
 returns : tie.Need-returns
 unfolding begun
-returns c = rw (eq-eqb _ _ (c .before .if1 .taken)) (refl, c .blank .ensures)
+returns c = rw (eq-eqb _ _ (c .before .if1 .taken)) (c .not-begun .ensures)
 
-blank-requires-2 : tie.Need-blank-requires-2
-blank-requires-2 c κs = search needs
+not-begun-requires-2 : tie.Need-not-begun-requires-2
+not-begun-requires-2 c κs = search needs
 
 returns-2 : tie.Need-returns-2
 unfolding begun
 returns-2 c =
-    rw (ne-eqb _ _ (c .before .before .if1 .left), lt-ltb _ _ (c .before .if2 .taken)) (refl, c .blank2 .ensures)
+    rw (ne-eqb _ _ (c .before .before .if1 .left), lt-ltb _ _ (c .before .if2 .taken)) (c .not-begun2 .ensures)
 
 fits-requires : tie.Need-fits-requires
 fits-requires c κs = search needs
 
-blank-requires-3 : tie.Need-blank-requires-3
-blank-requires-3 c κs = search needs
+not-begun-requires-3 : tie.Need-not-begun-requires-3
+not-begun-requires-3 c κs = search needs
 
 returns-3 : tie.Need-returns-3
 unfolding begun
@@ -36,10 +36,10 @@ returns-3 c =
       ← c .before .before .fits2 .ensures,
       not-true (c .before .before .fits2 .result) (c .before .if3 .taken),
     )
-    (refl, c .blank3 .ensures)
+    (c .not-begun3 .ensures)
 
-blank-requires-4 : tie.Need-blank-requires-4
-blank-requires-4 c κs = search needs
+blank-requires : tie.Need-blank-requires
+blank-requires c κs = search needs
 
 returns-4 : tie.Need-returns-4
 unfolding begun
@@ -50,18 +50,18 @@ returns-4 c =
       ← c .before .before .fits2 .ensures,
       not-false (c .before .before .fits2 .result) (c .before .if3 .left),
     )
-    (refl, c .blank4 .ensures)
+    (refl, c .blank .ensures)
 
 pub begin-spec : {M : Type 1} → statement M
 begin-spec =
     tie.close
     (tie.spec
-    blank-requires
+    not-begun-requires
     returns
-    blank-requires-2
+    not-begun-requires-2
     returns-2
     fits-requires
-    blank-requires-3
+    not-begun-requires-3
     returns-3
-    blank-requires-4
+    blank-requires
     returns-4)

@@ -1,0 +1,7 @@
+pub mod Fit
+pub mod Keeps
+pub mod Levels
+pub mod Moves
+pub mod Room
+pub mod Tests
+pub mod Stages

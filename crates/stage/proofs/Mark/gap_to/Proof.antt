@@ -1,0 +1,19 @@
+-- `stage::Mark::gap_to` meets its contract.
+use borrow.Author.Needs.{needs}
+use Rattle.stage.proofs.Mark.gap_to.Statement.{statement}
+use Rattle.stage.proofs.Mark.gap_to.Tie as tie
+
+distance-requires : tie.Need-distance-requires
+distance-requires c κs = search needs
+
+cast-cut : tie.Need-cast-cut
+cast-cut c = search needs
+
+cut-requires : tie.Need-cut-requires
+cut-requires c κs = search needs
+
+returns : tie.Need-returns
+returns c = cc
+
+pub gap-to-spec : {M : Type 1} → statement M
+gap-to-spec = tie.close (tie.spec distance-requires cast-cut cut-requires returns)

@@ -1,0 +1,13 @@
+-- `stage::Mark::origin` meets its contract.
+use borrow.Author.Needs.{needs}
+use Rattle.stage.proofs.Mark.origin.Statement.{statement}
+use Rattle.stage.proofs.Mark.origin.Tie as tie
+
+empty-requires : tie.Need-empty-requires
+empty-requires c κs = search needs
+
+returns : tie.Need-returns
+returns c = cc
+
+pub origin-spec : {M : Type 1} → statement M
+origin-spec = tie.close (tie.spec empty-requires returns)

@@ -1,0 +1,105 @@
+-- Taking off and entering, case by case: how many are held, and whether the newcomer's gap is the step; and how long a stage is quiet.
+-- Assumes nothing.
+use Prim.Native.Nat.{ℕ, suc, _+_, _-_, _≤_, _<_}
+use mathlib.Core.Path.{_≡_}
+use mathlib.Core.Bool.{true, false}
+use native.Mathlib.Omega.{arith}
+use lib.Dec.{leb, eqb}
+use borrow.Author.Tests.{eqb-true, eqb-false, eq-eqb, ne-eqb, lt-ltb, le-ltb, le-leb, lt-leb}
+use Rattle.fingerprint.specs.declared.Key.{Key}
+use Rattle.lists.proofs.Cases.{by-test}
+use Rattle.stage.specs.declared.Mark.{Mark}
+use Rattle.stage.specs.declared.Stage.{Stage}
+use Rattle.stage.specs.declared.Aside.the-variants.{Nothing, Set}
+use Rattle.stage.specs.declared.Entry.{Entry}
+use Rattle.stage.specs.Stage.{maxTaken, noStage, sameGap, gapTo, forward, alone, takenOff, entered, allButLast, takeOffOf, entryOf, quietUntil}
+
+module _ (key : Key) (s : Stage) where
+  abbrev second : ℕ
+  second = s .first .at + s .step .length
+
+  pub off-few : s .held ≤ 1 → takeOffOf key s ≡ noStage
+  unfolding takeOffOf takenOff
+  off-few h =
+      by-test (eqb (s .held) 0) (λ e. rw e)
+      (λ e.
+      let one : s .held ≡ 1 = omega (arith, eqb-false (s .held) 0 e) in
+      rw (e, eq-eqb (s .held) 1 one) (by-test (leb second maxTaken) (λ f. rw f) (λ f. rw f)))
+
+  pub off-past : (s .held ≡ 0 → ⊥) → maxTaken < second → takeOffOf key s ≡ noStage
+  unfolding takeOffOf
+  off-past n h = rw (ne-eqb (s .held) 0 n, lt-leb second maxTaken h)
+
+  module _ (room : second ≤ maxTaken) where
+    pub off-two : s .held ≡ 2 → takeOffOf key s ≡ alone (forward key (s .first) (s .step))
+    unfolding takeOffOf takenOff
+    off-two e = rw (e, le-leb second maxTaken room)
+
+    pub off-more :
+        2 < s .held
+        → takeOffOf key s
+        ≡ record { held = s .held - 1; first = forward key (s .first) (s .step); last = s .last; step = s .step }
+    unfolding takeOffOf takenOff
+    off-more h =
+        rw (
+          ne-eqb (s .held) 0 (omega arith),
+          ne-eqb (s .held) 1 (omega arith),
+          ne-eqb (s .held) 2 (omega arith),
+          le-leb second maxTaken room,
+        )
+
+module _ (key : Key) (s : Stage) (new : Mark) where
+  pub enter-none : s .held ≡ 0 → entryOf key s new ≡ record { stage = alone new; aside = Nothing }
+  unfolding entryOf entered
+  enter-none e = rw e
+
+  pub enter-full : maxTaken ≤ s .held → entryOf key s new ≡ record { stage = noStage; aside = Nothing }
+  unfolding entryOf
+  enter-full h = rw (le-ltb (s .held) maxTaken h)
+
+  -- what is left of a stage whose last start and newcomer remain
+  abbrev pair : Stage
+  pair = record { held = 2; first = s .last; last = new; step = gapTo key (s .last) new }
+
+  pub enter-second : s .held ≡ 1 → entryOf key s new ≡ record { stage = pair; aside = Nothing }
+  unfolding entryOf entered
+  enter-second e = rw e
+
+  module _ (two : 2 ≤ s .held) (room : s .held < maxTaken) where
+    pub enter-longer :
+        sameGap (gapTo key (s .last) new) (s .step) ≡ true
+        → entryOf key s new
+        ≡ record {
+          stage = record { held = suc (s .held); first = s .first; last = new; step = s .step };
+          aside = Nothing;
+        }
+    unfolding entryOf entered
+    enter-longer e =
+        rw (
+          lt-ltb (s .held) maxTaken room,
+          ne-eqb (s .held) 0 (omega arith),
+          ne-eqb (s .held) 1 (omega arith),
+          lt-ltb 1 (s .held) two,
+          e,
+        )
+
+    pub enter-aside :
+        sameGap (gapTo key (s .last) new) (s .step) ≡ false
+        → entryOf key s new ≡ record { stage = pair; aside = Set (allButLast s) }
+    unfolding entryOf entered
+    enter-aside e =
+        rw (
+          lt-ltb (s .held) maxTaken room,
+          ne-eqb (s .held) 0 (omega arith),
+          ne-eqb (s .held) 1 (omega arith),
+          lt-ltb 1 (s .held) two,
+          e,
+        )
+
+-- A stage is quiet no longer than asked for, and not when its first start is ripe.
+module _ (length until : ℕ) (s : Stage) where
+  pub quiet-most : quietUntil length until s ≤ until
+  quiet-most = by-test (eqb (s .held) 0) (λ e. rw e (omega arith)) (λ e. rw e (omega arith))
+
+  pub quiet-before : 1 ≤ length → (s .held ≡ 0 → ⊥) → quietUntil length until s < s .first .at + length
+  quiet-before l n = rw (ne-eqb (s .held) 0 n) (omega arith)

@@ -1,0 +1,61 @@
+-- `stage::Stage::take_off` meets its contract.
+use native.Mathlib.Omega.{arith}
+use mathlib.Core.Path.{sym, _∙_}
+use Rattle.stage.proofs.Moves.{off-few, off-past, off-two, off-more}
+use borrow.Author.Needs.{needs}
+use Rattle.stage.proofs.Stage.take_off.Statement.{statement}
+use Rattle.stage.proofs.Stage.take_off.Tie as tie
+
+none-requires : tie.Need-none-requires
+none-requires c κs = search needs
+
+returns : tie.Need-returns
+returns c =
+    let a = c .before .before .before .args in
+    c .none .ensures ∙ sym (off-few (a .key) (a .self) (c .before .if1 .taken))
+
+sub-if2 : tie.Need-sub-if2
+sub-if2 c = search needs
+
+none-requires-2 : tie.Need-none-requires-2
+none-requires-2 c κs = search needs
+
+returns-2 : tie.Need-returns-2
+returns-2 c =
+    let a = c .before .before .before .before .before .before .before .args in
+    c .none2 .ensures ∙ sym (off-past (a .key) (a .self) (λ e. omega arith) (omega arith))
+
+forward-requires : tie.Need-forward-requires
+forward-requires c κs = search needs
+
+alone-requires : tie.Need-alone-requires
+alone-requires c κs = search needs
+
+returns-3 : tie.Need-returns-3
+returns-3 c =
+    let a = c .before .before .before .before .before .before .before .before .before .before .args in
+    rw (c .before .before .before .forward .ensures) at (c .alone .ensures)
+    ∙ sym (off-two (a .key) (a .self) (omega arith) (c .before .if3 .taken))
+
+sub-t7 : tie.Need-sub-t7
+sub-t7 c = search needs
+
+returns-4 : tie.Need-returns-4
+returns-4 c =
+    let a = c .before .before .before .before .before .before .before .before .before .before .before .args in
+    rw (c .before .before .before .before .forward .ensures) (sym (off-more (a .key) (a .self) (omega arith) (omega arith)))
+
+pub take-off-spec : {M : Type 1} → statement M
+take-off-spec =
+    tie.close
+    (tie.spec
+    none-requires
+    returns
+    sub-if2
+    none-requires-2
+    returns-2
+    forward-requires
+    alone-requires
+    returns-3
+    sub-t7
+    returns-4)

@@ -1,0 +1,43 @@
+-- The stages of a watch: each is reached by its number, whatever they are laid out in.
+use Prim.Native.Nat.{ℕ}
+use mathlib.Core.Path.{_≡_}
+use mathlib.Core.Bool.{Bool}
+use mathlib.Core.List.{List}
+use lib.ListN.{length, getD, set, replicate}
+use Rattle.lists.specs.Lists.{every, tabulate}
+use Rattle.stage.specs.declared.Stage.{Stage}
+use Rattle.stage.specs.Stage.{noStage, stageFits}
+
+-- Places for stages: 0 to 19.
+abbrev pub stageCount : ℕ
+stageCount = 20
+
+-- What a watch keeps: 20 stages.
+abbrev pub Stages : Type 0
+Stages = List Stage
+
+-- There are as many as there must be.
+abbrev pub Whole : Stages → Type 0
+Whole stages = length stages ≡ stageCount
+
+abbrev pub stageAt : Stages → ℕ → Stage
+stageAt stages i = getD stages i noStage
+
+-- the same stages, but for stage i
+abbrev pub withStage : Stages → ℕ → Stage → Stages
+withStage stages i s = set stages i s
+
+-- the stages that have these at their numbers
+abbrev pub stagesOf : (ℕ → Stage) → Stages
+stagesOf f = tabulate f stageCount
+
+-- "nothing listed"
+abbrev pub noStages : Stages
+noStages = replicate stageCount noStage
+
+abbrev pub fitsAt : ℕ → ℕ → Stages → ℕ → Bool
+fitsAt m t stages i = stageFits m i t (stageAt stages i)
+
+-- Each stage of a watch over m bytes fits at t.
+abbrev pub stagesFit : ℕ → ℕ → Stages → Bool
+stagesFit m t stages = every (fitsAt m t stages) stageCount
