@@ -1,9 +1,8 @@
-pub mod Bytes
-pub mod Fits
+mod Own
 pub mod Sizes
+mod Positions
+mod Fits
 pub mod Head
-mod Fields
-mod Pasted
 mod Assembled
 mod Reading
 mod Restoring

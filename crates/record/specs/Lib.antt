@@ -1,3 +1,4 @@
+pub mod Owned
 pub mod Layout
+pub mod Places
 pub mod Calls
-pub mod Field
