@@ -26,7 +26,7 @@ use Rattle.stage.specs.Stages.{Stages, stageAt}
 use Rattle.matcher.specs.declared.Matcher.{Matcher}
 use Rattle.matcher.specs.declared.Walk.{Walk}
 use Rattle.matcher.specs.declared.Round.{Round}
-use Rattle.matcher.specs.Matcher.{matcherFits}
+use Rattle.matcher.specs.Matcher.{matcherFits, moved}
 use Rattle.matcher.specs.Stroke.{noAnswer, compared, nextMark, matches, tried, ripe, descended, walkedFrom, walked, strokeRefusal, strokeAnswer, afterStroke}
 use Rattle.matcher.specs.Scan.{Scanned, onward, scanned}
 use Rattle.matcher.specs.Skip.{skipped, Unripe}
@@ -74,8 +74,8 @@ module _ (key : Key) (first : Fingerprint) (input : List ℕ) (mark : Mark) wher
     skipped-step e = skipped-next ∙ rw e
 
 -- the watch with another t and F_t
-abbrev pub moved : Matcher → Mark → Matcher
-moved w now = record { signature = w .signature; now = now; stages = w .stages }
+abbrev pub movedOn : Matcher → Mark → Matcher
+movedOn w now = moved w now (w .stages)
 
 -- where a run ends of which n bytes, with c comparisons, were taken before
 abbrev pub ahead : ℕ → ℕ → Scanned → Scanned
@@ -97,8 +97,8 @@ pub record Skips (w : Matcher) (n : ℕ) (bytes : List ℕ) (now : Mark) : Type 
   pub most : taken ≤ n
   pub short : taken ≤ length bytes
   pub moves : now .at ≡ w .now .at + taken
-  pub fits : matcherFits (moved w now) ≡ true
-  pub same : scanned w bytes ≡ ahead taken taken (scanned (moved w now) (drop taken bytes))
+  pub fits : matcherFits (movedOn w now) ≡ true
+  pub same : scanned w bytes ≡ ahead taken taken (scanned (movedOn w now) (drop taken bytes))
 
 -- The byte b, at which no start is ripe, and which is not P_0.
 module _ (w : Matcher) (b : ℕ) (fits : matcherFits w ≡ true) (room : w .now .at < maxTaken) (unripe : Unripe (levels (w .signature .length)) (w .signature .length) (suc (w .now .at)) (w .stages)) (other : same (getD (w .signature .prints) 0 empty) (bytePrint b) ≡ false) where
@@ -133,18 +133,18 @@ module _ (w : Matcher) (b : ℕ) (fits : matcherFits w ≡ true) (room : w .now 
   unfolding strokeAnswer
   quiet-answer = rw (taken, strokeAnswer, walked-quietly)
 
-  quiet-after : afterStroke w b ≡ moved w next
+  quiet-after : afterStroke w b ≡ movedOn w next
   unfolding afterStroke
   quiet-after = rw (taken, afterStroke, walked-quietly)
 
-  pub quiet-fits : matcherFits (moved w next) ≡ true
+  pub quiet-fits : matcherFits (movedOn w next) ≡ true
   quiet-fits = rw quiet-after at (stroke-fits w b taken)
 
-  pub quiet-scanned : (bytes : List ℕ) → scanned w (b ∷ bytes) ≡ onward 1 (scanned (moved w next) bytes)
+  pub quiet-scanned : (bytes : List ℕ) → scanned w (b ∷ bytes) ≡ onward 1 (scanned (movedOn w next) bytes)
   unfolding scanned
   quiet-scanned bytes = rw (taken, quiet-answer, quiet-after)
 
-  pub skip-one : (n : ℕ) (bytes : List ℕ) (now : Mark) → Skips (moved w next) n bytes now → Skips w (suc n) (b ∷ bytes) now
+  pub skip-one : (n : ℕ) (bytes : List ℕ) (now : Mark) → Skips (movedOn w next) n bytes now → Skips w (suc n) (b ∷ bytes) now
   skip-one n bytes now q =
       record {
         taken = suc (q .taken);
@@ -207,7 +207,7 @@ skips-more n b bytes more w fits room unripe =
     let later : Unripe (levels (w .signature .length)) (w .signature .length) (suc t + n) (w .stages) = sooner (levels (w .signature .length)) (w .signature .length) (w .stages) (omega arith) unripe in
     rw e
     (skip-one w b fits below soon e n bytes _
-    (more (moved w (nextMark (w .signature .key) (w .now) b)) (quiet-fits w b fits below soon e) (omega arith) later)))
+    (more (movedOn w (nextMark (w .signature .key) (w .now) b)) (quiet-fits w b fits below soon e) (omega arith) later)))
 
 pub skips : (n : ℕ) (bytes : List ℕ) → SkipsAll n bytes
 unfolding skipped

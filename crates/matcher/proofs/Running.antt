@@ -12,6 +12,7 @@ use lib.Seq.{drop-cons, drop-drop}
 use borrow.Author.Tests.{lt-ltb, le-ltb}
 use Rattle.ladder.specs.Prefix.{levels}
 use Rattle.ladder.proofs.Levels.{levels-bound}
+use Rattle.signature.specs.Signature.{places}
 use Rattle.refusal.specs.declared.Refusal.the-variants.{Spent, Misfit}
 use Rattle.refusal.specs.Number.{number}
 use Rattle.refusal.specs.declared.Verdict.the-variants.{Accepted, Refused}
@@ -20,14 +21,14 @@ use Rattle.stage.specs.Stage.{maxTaken}
 use Rattle.matcher.specs.declared.Matcher.{Matcher}
 use Rattle.matcher.specs.declared.Answer.{Answer}
 use Rattle.matcher.specs.declared.Scan.{Scan}
-use Rattle.matcher.specs.Matcher.{matcherFits}
+use Rattle.matcher.specs.Matcher.{matcherFits, moved}
 use Rattle.matcher.specs.Stroke.{noAnswer, nextMark, walked, strokeRefusal, strokeAnswer, afterStroke}
 use Rattle.matcher.specs.Scan.{Scanned, silent, scanned, scanOf}
 use Rattle.matcher.specs.Skip.{skipped, Unripe, silentEnd, Ends}
 use Rattle.matcher.proofs.Sound.{sound, card-of, after-taken}
 use Rattle.matcher.proofs.StrokeFits.{stroke-fits}
 use Rattle.matcher.proofs.Ceiling.{ceiling}
-use Rattle.matcher.proofs.Quiet.{moved, first, ahead, scanned-by, Skips, no-skips, skips, sooner, skipped-none}
+use Rattle.matcher.proofs.Quiet.{movedOn, first, ahead, scanned-by, Skips, no-skips, skips, sooner, skipped-none}
 
 -- The run at a place of the input: the watch fits, its comparisons are few, and what is left to take is taken by it.
 pub record Running (self : Matcher) (input : List ℕ) (from : ℕ) (w : Matcher) (at comparisons : ℕ) : Type 0 where
@@ -35,7 +36,7 @@ pub record Running (self : Matcher) (input : List ℕ) (from : ℕ) (w : Matcher
   pub room : w .now .at ≤ maxTaken
   pub begun : from ≤ at
   pub within : at ≤ length input
-  pub few : comparisons + 21 * self .now .at ≤ 21 * w .now .at
+  pub few : comparisons + places * self .now .at ≤ places * w .now .at
   pub same : scanned self (drop from input) ≡ ahead comparisons (at - from) (scanned w (drop at input))
 
 module _ (self : Matcher) (input : List ℕ) (from : ℕ) where
@@ -89,7 +90,7 @@ module _ (self : Matcher) (input : List ℕ) (from : ℕ) where
         accepted = rw (q .fits, lt-ltb (w .now .at) maxTaken below)
 
         abbrev after : Matcher
-        after = record { signature = w .signature; now = nextMark (w .signature .key) (w .now) byte; stages = walked w byte .stages }
+        after = moved w (nextMark (w .signature .key) (w .now) byte) (walked w byte .stages)
 
         answered : strokeAnswer w byte ≡ walked w byte .answer
         unfolding strokeAnswer
@@ -116,7 +117,7 @@ module _ (self : Matcher) (input : List ℕ) (from : ℕ) where
             }) _ (ap (scanned w) here ∙ rw (accepted, answered, e)) (sym (after-taken w byte accepted)) (sym answered)
             (ap (λ (a : Answer). comparisons + a .comparisons) (sym answered)) refl refl
 
-        pub run-count : walked w byte .answer .comparisons ≤ 21
+        pub run-count : walked w byte .answer .comparisons ≤ places
         run-count =
             let count : strokeAnswer w byte .comparisons ≤ suc (levels (w .signature .length)) = ceiling w byte in
             omega (arith, rw answered at count, levels-bound (w .signature .length) (card-of (sound w (q .fits)) .short))
@@ -146,7 +147,7 @@ module _ (self : Matcher) (input : List ℕ) (from : ℕ) where
         → n ≤ until - w .now .at
         → n ≤ length input - at
         → (s : Skips w n (drop at input) r)
-        → Running self input from (moved w r) (at + (r .at - w .now .at)) (comparisons + (r .at - w .now .at))
+        → Running self input from (movedOn w r) (at + (r .at - w .now .at)) (comparisons + (r .at - w .now .at))
     run-passed until n r low soon inside s =
         let taken : r .at - w .now .at ≡ s .taken = omega (arith, s .moves) in
         rw taken
@@ -165,7 +166,7 @@ module _ (self : Matcher) (input : List ℕ) (from : ℕ) where
     pub run-skip :
         (until : ℕ) → until ≤ maxTaken → Unripe (levels (w .signature .length)) (w .signature .length) until (w .stages)
         → (r : Mark) → r ≡ skipped (w .signature .key) (first w) (min (until - w .now .at) (length input - at)) (w .now) (drop at input)
-        → Running self input from (moved w r) (at + (r .at - w .now .at)) (comparisons + (r .at - w .now .at))
+        → Running self input from (movedOn w r) (at + (r .at - w .now .at)) (comparisons + (r .at - w .now .at))
     run-skip until low unripe r e =
         let n : ℕ = min (until - w .now .at) (length input - at) in
         run-passed until n r low (omega arith) (omega arith)

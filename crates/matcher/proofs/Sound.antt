@@ -16,7 +16,7 @@ use Rattle.signature.proofs.Card.{SoundCard, sound-card}
 use Rattle.stage.specs.Stages.{stageCount, stageAt, stagesFit}
 use Rattle.stage.proofs.Fit.{Fit, fit-of, fits-of}
 use Rattle.matcher.specs.declared.Matcher.{Matcher}
-use Rattle.matcher.specs.Matcher.{matcherFits}
+use Rattle.matcher.specs.Matcher.{matcherFits, moved}
 use Rattle.matcher.specs.Stroke.{nextMark, walked, strokeRefusal, afterStroke}
 
 -- What a watch that is no misfit says of itself.
@@ -64,7 +64,6 @@ taken-fits w e =
 pub after-taken :
     (w : Matcher) (b : ℕ)
     → strokeRefusal w ≡ 0
-    → afterStroke w b
-    ≡ record { signature = w .signature; now = nextMark (w .signature .key) (w .now) b; stages = walked w b .stages }
+    → afterStroke w b ≡ moved w (nextMark (w .signature .key) (w .now) b) (walked w b .stages)
 unfolding afterStroke
 after-taken w b e = rw (e, afterStroke)

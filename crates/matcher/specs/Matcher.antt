@@ -5,8 +5,9 @@ use lib.Dec.{eqb}
 use Rattle.fingerprint.specs.Fingerprint.{printFits, same, empty}
 use Rattle.signature.specs.declared.Signature.{Signature}
 use Rattle.signature.specs.Signature.{signatureFits, noSignature}
+use Rattle.stage.specs.declared.Mark.{Mark}
 use Rattle.stage.specs.Stage.{origin}
-use Rattle.stage.specs.Stages.{noStages, stagesFit}
+use Rattle.stage.specs.Stages.{Stages, noStages, stagesFit}
 use Rattle.matcher.specs.declared.Matcher.{Matcher}
 
 -- A watch is no misfit: its card is none, F_t is a fingerprint and 0 at t = 0, and each stage fits.
@@ -23,6 +24,10 @@ freshRefusal s = cond (signatureFits s) 0 10
 
 abbrev pub blank : Signature → Matcher
 blank s = record { signature = s; now = origin; stages = noStages }
+
+-- the watch with another t, F_t and stages
+abbrev pub moved : Matcher → Mark → Stages → Matcher
+moved w now stages = record { signature = w .signature; now = now; stages = stages }
 
 -- what stands beside a refusal: the watch that holds nothing
 abbrev pub noMatcher : Matcher

@@ -19,7 +19,7 @@ use Rattle.matcher.specs.declared.Ring.the-variants.{Silent, At}
 use Rattle.matcher.specs.declared.Answer.{Answer}
 pub use Rattle.matcher.specs.declared.Round.{Round}
 pub use Rattle.matcher.specs.declared.Walk.{Walk}
-use Rattle.matcher.specs.Matcher.{matcherFits}
+use Rattle.matcher.specs.Matcher.{matcherFits, moved}
 
 abbrev pub noProgression : Progression
 noProgression = record { first = 0; step = 0; many = 0 }
@@ -106,9 +106,5 @@ strokeAnswer w byte = cond (eqb (strokeRefusal w) 0) (walked w byte .answer) noA
 unfoldable pub afterStroke : Matcher → ℕ → Matcher
 afterStroke w byte =
     cond (eqb (strokeRefusal w) 0)
-    (record {
-      signature = w .signature;
-      now = nextMark (w .signature .key) (w .now) byte;
-      stages = walked w byte .stages;
-    })
+    (moved w (nextMark (w .signature .key) (w .now) byte) (walked w byte .stages))
     w

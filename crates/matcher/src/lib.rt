@@ -11,7 +11,7 @@ ghost use Rattle.refusal.specs.Number.{number};
 ghost use Rattle.signature.specs.Signature.{maxLength};
 ghost use Rattle.stage.specs.Stage.{maxTaken, gapTo, canEnter};
 ghost use Rattle.stage.specs.Stages.{stageCount, stagesFit, stageAt};
-ghost use Rattle.matcher.specs.Matcher.{matcherFits, freshRefusal, fresh, blank, noMatcher};
+ghost use Rattle.matcher.specs.Matcher.{matcherFits, freshRefusal, fresh, blank, moved, noMatcher};
 ghost use Rattle.matcher.specs.Stroke.{noAnswer, ringing, withAside, promotedUnder, descended, walkedFrom, nextMark, strokeRefusal, strokeAnswer, afterStroke};
 ghost use Rattle.matcher.specs.Scan.{silent, scanned, scanOf};
 ghost use Rattle.matcher.specs.Skip.{Shifts, skipped, Unripe, silentEnd, Ends};
@@ -245,24 +245,18 @@ fn descend(c: Round, k: u32, shifts: [Power; PLACES], before: [Stage; STAGES]) -
         let length = signature::prefix_length(m, above);
         if s.is_ripe(length, now.at) {
             let first = s.first;
-            let rest = s.take_off(key);
-            w.stages[i as usize] = rest;
+            w.stages[i as usize] = s.take_off(key);
             w.answer.comparisons = w.answer.comparisons + 1;
-            let shift = shifts[above as usize];
-            let print = prints[above as usize];
-            if matches(shift, first, now, print) {
+            if matches(shifts[above as usize], first, now, prints[above as usize]) {
                 if above == k {
-                    let answer = w.answer;
-                    w.answer = answer.with_ring(first.at);
+                    w.answer = w.answer.with_ring(first.at);
                 } else {
-                    let u = w.stages[above as usize];
-                    let e = u.enter(key, first);
-                    let stage = e.stage;
+                    let e = w.stages[above as usize].enter(key, first);
                     let aside = e.aside;
+                    let stage = e.stage;
                     w.stages[above as usize] = stage;
                     if let Aside::Set(_) = aside {
-                        let answer = w.answer;
-                        w.answer = answer.with(aside);
+                        w.answer = w.answer.with(aside);
                     }
                 }
             }
@@ -368,6 +362,17 @@ impl Matcher {
         }
     }
 
+    // The watch with another t, F_t and stages.
+    fn moved(self, now: Mark, stages: [Stage; STAGES]) -> Matcher
+        ensures { λ w. ⌜ w ≡ moved self now stages ⌝ }
+    {
+        Matcher {
+            now,
+            stages,
+            ..self
+        }
+    }
+
     // The watch that holds nothing, which stands beside a refusal: every call refuses it with 10.
     pub fn none() -> Matcher
         ensures { λ w. ⌜ w ≡ noMatcher ⌝ }
@@ -423,11 +428,7 @@ impl Matcher {
         Stroke {
             verdict: Verdict::Accepted,
             answer,
-            matcher: Matcher {
-                signature,
-                now,
-                stages,
-            },
+            matcher: self.moved(now, stages),
         }
     }
 
@@ -453,11 +454,7 @@ impl Matcher {
             comparisons = comparisons + (skipped as u64);
             if at < input.len() {
                 if MAX_TAKEN <= start.at {
-                    let matcher = Matcher {
-                        signature,
-                        now,
-                        stages,
-                    };
+                    let matcher = self.moved(now, stages);
                     return Scan::silent(matcher, comparisons, at, Verdict::Refused(Refusal::Spent));
                 }
                 now = next_mark(key, start, input[at]);
@@ -467,11 +464,7 @@ impl Matcher {
                 stages = w.stages;
                 comparisons = comparisons + (answer.comparisons as u64);
                 if !answer.is_silent() {
-                    let matcher = Matcher {
-                        signature,
-                        now,
-                        stages,
-                    };
+                    let matcher = self.moved(now, stages);
                     return Scan {
                         matcher,
                         answer,
@@ -482,11 +475,7 @@ impl Matcher {
                 }
             }
         }
-        let matcher = Matcher {
-            signature,
-            now,
-            stages,
-        };
+        let matcher = self.moved(now, stages);
         Scan::silent(matcher, comparisons, at, Verdict::Accepted)
     }
 

@@ -70,18 +70,18 @@ is-ripe-requires c κs = search needs
 take-off-requires : tie.Need-take-off-requires Inv-loop μ-loop
 take-off-requires c κs = search needs
 
-cast-rest : tie.Need-cast-rest Inv-loop μ-loop
-cast-rest c =
+cast-t28 : tie.Need-cast-t28 Inv-loop μ-loop
+cast-t28 c =
     let loop = c .before .before .before .before .before .before .before .loop in
     omega (arith, loop .inv .most, loop .inv .within)
 
-mul-rest : tie.Need-mul-rest Inv-loop μ-loop
-mul-rest c =
+mul-t29 : tie.Need-mul-t29 Inv-loop μ-loop
+mul-t29 c =
     let loop = c .before .before .before .before .before .before .before .loop in
     omega (arith, loop .inv .most, loop .inv .within)
 
-element-set-from-rest : tie.Need-element-set-from-rest Inv-loop μ-loop
-element-set-from-rest c =
+element-set-from-w : tie.Need-element-set-from-w Inv-loop μ-loop
+element-set-from-w c =
     let loop = c .before .before .before .before .before .before .before .loop in
     omega (arith, loop .inv .most, loop .inv .within)
 
@@ -90,33 +90,33 @@ add-w c =
     let loop = c .before .before .before .before .before .before .before .loop in
     omega (arith, loop .inv .most, loop .inv .count)
 
-cast-shift : tie.Need-cast-shift Inv-loop μ-loop
-cast-shift c =
+cast-matches : tie.Need-cast-matches Inv-loop μ-loop
+cast-matches c =
     let loop = c .before .before .before .before .before .before .before .before .loop in
     omega (arith, loop .inv .most, loop .inv .within)
 
-mul-shift : tie.Need-mul-shift Inv-loop μ-loop
-mul-shift c =
+mul-matches : tie.Need-mul-matches Inv-loop μ-loop
+mul-matches c =
     let loop = c .before .before .before .before .before .before .before .before .loop in
     omega (arith, loop .inv .most, loop .inv .within)
 
-array-copy-out-shift : tie.Need-array-copy-out-shift Inv-loop μ-loop
-array-copy-out-shift c =
+array-copy-out-matches : tie.Need-array-copy-out-matches Inv-loop μ-loop
+array-copy-out-matches c =
     let loop = c .before .before .before .before .before .before .before .before .loop in
     omega (arith, loop .inv .most, loop .inv .within)
 
-cast-print : tie.Need-cast-print Inv-loop μ-loop
-cast-print c =
+cast-matches-2 : tie.Need-cast-matches-2 Inv-loop μ-loop
+cast-matches-2 c =
     let loop = c .before .before .before .before .before .before .before .before .before .loop in
     omega (arith, loop .inv .most, loop .inv .within)
 
-mul-print : tie.Need-mul-print Inv-loop μ-loop
-mul-print c =
+mul-matches-2 : tie.Need-mul-matches-2 Inv-loop μ-loop
+mul-matches-2 c =
     let loop = c .before .before .before .before .before .before .before .before .before .loop in
     omega (arith, loop .inv .most, loop .inv .within)
 
-array-copy-out-print : tie.Need-array-copy-out-print Inv-loop μ-loop
-array-copy-out-print c =
+array-copy-out-matches-2 : tie.Need-array-copy-out-matches-2 Inv-loop μ-loop
+array-copy-out-matches-2 c =
     let loop = c .before .before .before .before .before .before .before .before .before .loop in
     omega (arith, loop .inv .most, loop .inv .within)
 
@@ -140,18 +140,18 @@ loop-again c =
     rw (c .with-ring .ensures, add-one (loop .w .answer .comparisons))
     (turn-rung (args .c) (args .k) (loop .i) _ (loop .w) (loop-test .taken) (loop .inv) (ripened (c .before .before .before .before .before .before .before .before .before .before)) (take-off .result) (take-off .ensures) (sym (judged (c .before .before .before .before)) ∙ if2 .taken) (if3 .taken))
 
-cast-u : tie.Need-cast-u Inv-loop μ-loop
-cast-u c =
+cast-enter : tie.Need-cast-enter Inv-loop μ-loop
+cast-enter c =
     let loop = c .before .before .before .before .before .before .before .before .before .before .before .before .before .loop in
     omega (arith, loop .inv .most, loop .inv .within)
 
-mul-u : tie.Need-mul-u Inv-loop μ-loop
-mul-u c =
+mul-enter : tie.Need-mul-enter Inv-loop μ-loop
+mul-enter c =
     let loop = c .before .before .before .before .before .before .before .before .before .before .before .before .before .loop in
     omega (arith, loop .inv .most, loop .inv .within)
 
-element-copy-out-u : tie.Need-element-copy-out-u Inv-loop μ-loop
-element-copy-out-u c =
+element-copy-out-enter : tie.Need-element-copy-out-enter Inv-loop μ-loop
+element-copy-out-enter c =
     let loop = c .before .before .before .before .before .before .before .before .before .before .before .before .before .loop in
     omega (arith, loop .inv .most, loop .inv .within)
 
@@ -263,23 +263,23 @@ descend-spec =
     prefix-length-requires
     is-ripe-requires
     take-off-requires
-    cast-rest
-    mul-rest
-    element-set-from-rest
+    cast-t28
+    mul-t29
+    element-set-from-w
     add-w
-    cast-shift
-    mul-shift
-    array-copy-out-shift
-    cast-print
-    mul-print
-    array-copy-out-print
+    cast-matches
+    mul-matches
+    array-copy-out-matches
+    cast-matches-2
+    mul-matches-2
+    array-copy-out-matches-2
     matches-requires
     with-ring-requires
     loop-less
     loop-again
-    cast-u
-    mul-u
-    element-copy-out-u
+    cast-enter
+    mul-enter
+    element-copy-out-enter
     enter-requires
     cast-stage
     mul-stage

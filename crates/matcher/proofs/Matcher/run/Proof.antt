@@ -5,17 +5,18 @@ use mathlib.Core.Path.{refl, sym, _∙_}
 use native.Mathlib.Omega.{arith}
 use borrow.Author.Tests.{not-true, not-false}
 use lib.ListN.{length}
+use Rattle.matcher.specs.Matcher.{moved}
 use Rattle.matcher.proofs.Sound.{sound, card-of, stages-fit}
 use Rattle.matcher.proofs.Running.{Running, run-begin, run-end, run-spent, run-report, run-count, run-step, run-skip}
 use Rattle.matcher.proofs.Matcher.run.Statement.{statement}
 use Rattle.matcher.proofs.Matcher.run.Tie as tie
 
 abbrev Inv-loop : tie.InvT-loop
-Inv-loop input from signature key first shifts stages₀ now₀ at₀ comparisons₀ stages now at comparisons =
-    Running (record { signature = signature; now = now₀; stages = stages₀ }) input from (record { signature = signature; now = now; stages = stages }) at comparisons
+Inv-loop self input from signature key first shifts stages₀ now₀ at₀ comparisons₀ stages now at comparisons =
+    Running self input from (moved self now stages) at comparisons
 
 abbrev μ-loop : tie.MeasureT-loop
-μ-loop input from signature key first shifts stages₀ now₀ at₀ comparisons₀ stages now at comparisons = length input - at
+μ-loop self input from signature key first shifts stages₀ now₀ at₀ comparisons₀ stages now at comparisons = length input - at
 
 -- the run once bytes were passed over
 passed :
@@ -71,15 +72,18 @@ cast-comparisons c = search needs
 add-comparisons : tie.Need-add-comparisons Inv-loop μ-loop
 add-comparisons c = omega (arith, passed c .few, passed c .room)
 
+moved-requires : tie.Need-moved-requires Inv-loop μ-loop
+moved-requires c κs = search needs
+
 silent-requires : tie.Need-silent-requires Inv-loop μ-loop
 silent-requires c κs = search needs
 
 returns : tie.Need-returns Inv-loop μ-loop
 returns c =
-    let args = c .before .before .before .before .before .before .before .before .before .before .before .before .before .before .before .before .args in
-    let if1 = c .before .before .before .if1 in
-    rw (c .silent .ensures)
-    (run-spent (args .self) (args .input .now) (args .from) _ _ _ (passed (c .before .before .before .before)) (if1 .taken) (c .before .if2 .taken))
+    let args = c .before .before .before .before .before .before .before .before .before .before .before .before .before .before .before .before .before .args in
+    let if1 = c .before .before .before .before .if1 in
+    rw (c .silent .ensures, c .before .moved .ensures)
+    (run-spent (args .self) (args .input .now) (args .from) _ _ _ (passed (c .before .before .before .before .before)) (if1 .taken) (c .before .before .if2 .taken))
 
 shared-slice-read-next-mark : tie.Need-shared-slice-read-next-mark Inv-loop μ-loop
 shared-slice-read-next-mark c = c .before .before .before .if1 .taken
@@ -114,16 +118,19 @@ add-comparisons-2 c =
 is-silent-requires : tie.Need-is-silent-requires Inv-loop μ-loop
 is-silent-requires c κs = search needs
 
+moved-requires-2 : tie.Need-moved-requires-2 Inv-loop μ-loop
+moved-requires-2 c κs = search needs
+
 returns-2 : tie.Need-returns-2 Inv-loop μ-loop
 returns-2 c =
-    let climb = c .before .before .before .before .before .climb in
-    let next-mark = c .before .before .before .before .before .before .next-mark in
-    let args = c .before .before .before .before .before .before .before .before .before .before .before .before .before .before .before .before .before .before .before .before .before .before .before .args in
-    let if1 = c .before .before .before .before .before .before .before .before .before .before .if1 in
-    let if2 = c .before .before .before .before .before .before .before .before .if2 in
-    rw (climb .ensures, next-mark .ensures)
-    (run-report (args .self) (args .input .now) (args .from) _ _ _ (passed (c .before .before .before .before .before .before .before .before .before .before .before)) (if1 .taken) (if2 .left)
-    (rw (climb .ensures, next-mark .ensures) at (sym (c .before .is-silent .ensures) ∙ not-true _ (c .if3 .taken))))
+    let climb = c .before .before .before .before .before .before .climb in
+    let next-mark = c .before .before .before .before .before .before .before .next-mark in
+    let args = c .before .before .before .before .before .before .before .before .before .before .before .before .before .before .before .before .before .before .before .before .before .before .before .before .args in
+    let if1 = c .before .before .before .before .before .before .before .before .before .before .before .if1 in
+    let if2 = c .before .before .before .before .before .before .before .before .before .if2 in
+    rw (c .moved2 .ensures, climb .ensures, next-mark .ensures)
+    (run-report (args .self) (args .input .now) (args .from) _ _ _ (passed (c .before .before .before .before .before .before .before .before .before .before .before .before)) (if1 .taken) (if2 .left)
+    (rw (climb .ensures, next-mark .ensures) at (sym (c .before .before .is-silent .ensures) ∙ not-true _ (c .before .if3 .taken))))
 
 loop-less : tie.Need-loop-less Inv-loop μ-loop
 loop-less c = omega (arith, c .before .before .before .before .before .before .before .before .before .before .if1 .taken)
@@ -145,14 +152,17 @@ loop-less-2 c = omega (arith, c .if1 .left, c .before .before .before .before .l
 loop-again-2 : tie.Need-loop-again-2 Inv-loop μ-loop
 loop-again-2 c = passed (c .before)
 
+moved-requires-3 : tie.Need-moved-requires-3 Inv-loop μ-loop
+moved-requires-3 c κs = search needs
+
 silent-requires-2 : tie.Need-silent-requires-2 Inv-loop μ-loop
 silent-requires-2 c κs = search needs
 
 returns-3 : tie.Need-returns-3 Inv-loop μ-loop
 returns-3 c =
-    let args = c .before .before .before .before .before .before .before .before .before .before .args in
-    let loop = c .before .before .loop in
-    rw (c .silent2 .ensures) (run-end (args .self) (args .input .now) (args .from) _ _ _ (loop .inv) (c .before .loop-test .left))
+    let args = c .before .before .before .before .before .before .before .before .before .before .before .args in
+    let loop = c .before .before .before .loop in
+    rw (c .silent2 .ensures, c .before .moved3 .ensures) (run-end (args .self) (args .input .now) (args .from) _ _ _ (loop .inv) (c .before .before .loop-test .left))
 
 pub run-spec : {M : Type 1} → statement M
 run-spec =
@@ -170,6 +180,7 @@ run-spec =
     add-at
     cast-comparisons
     add-comparisons
+    moved-requires
     silent-requires
     returns
     shared-slice-read-next-mark
@@ -179,10 +190,12 @@ run-spec =
     cast-comparisons-2
     add-comparisons-2
     is-silent-requires
+    moved-requires-2
     returns-2
     loop-less
     loop-again
     loop-less-2
     loop-again-2
+    moved-requires-3
     silent-requires-2
     returns-3)

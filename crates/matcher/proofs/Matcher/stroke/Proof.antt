@@ -45,18 +45,22 @@ climb-requires c κs =
     let q = sound (args .self) (sym (fits2 .ensures) ∙ not-false (fits2 .result) (if1 .left)) in
     rw (c .before .next-mark .ensures) (card-of q .long, card-of q .short, c .shifts .ensures, refl, stages-fit (args .self) q)
 
+moved-requires : tie.Need-moved-requires
+moved-requires c κs = search needs
+
 returns-3 : tie.Need-returns-3
 unfolding strokeAnswer afterStroke
 returns-3 c =
-    let if1 = c .before .before .before .before .before .before .before .before .before .before .if1 in
-    let if2 = c .before .before .before .before .before .before .before .if2 in
-    let climb = c .before .before .climb in
-    let next-mark = c .before .before .before .before .next-mark in
-    let fits2 = c .before .before .before .before .before .before .before .before .before .before .before .fits2 in
+    let if1 = c .before .before .before .before .before .before .before .before .before .before .before .if1 in
+    let if2 = c .before .before .before .before .before .before .before .before .if2 in
+    let climb = c .before .before .before .climb in
+    let next-mark = c .before .before .before .before .before .next-mark in
+    let fits2 = c .before .before .before .before .before .before .before .before .before .before .before .before .fits2 in
     rw (
       ← fits2 .ensures,
       not-false (fits2 .result) (if1 .left),
       lt-ltb _ _ (if2 .left),
+      c .moved .ensures,
       climb .ensures,
       next-mark .ensures,
     )
@@ -74,4 +78,5 @@ stroke-spec =
     next-mark-requires
     shifts-requires
     climb-requires
+    moved-requires
     returns-3)
