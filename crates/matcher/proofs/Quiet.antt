@@ -1,21 +1,20 @@
 -- A byte at which no start is ripe and which is not P_0 only moves t and F_t on; so do several of them.
 -- Assumes nothing.
-use Prim.Native.Nat.{ℕ, zero, suc, _+_, _-_, _*_, _%_, _≤_, _<_}
-use mathlib.Core.Path.{_≡_, refl, _∙_, ap}
-use mathlib.Core.Bool.{true, false, cond}
+use Prim.Native.Nat.{ℕ, zero, suc, _+_, _-_, _≤_, _<_}
+use mathlib.Core.Path.{_≡_, refl, sym, _∙_, ap}
+use mathlib.Core.Bool.{true, false, cond, true≢false}
 use mathlib.Core.List.{List, [], _∷_}
-use native.Mathlib.Nat.{pow-zero, pow-suc}
 use native.Mathlib.Decide.{ℕ-discrete}
 use native.Mathlib.Numerals.{add-one}
 use native.Mathlib.Omega.{arith}
 use lib.Dec.{eqb}
 use lib.ListN.{length, drop, getD}
 use lib.Seq.{drop-cons}
-use borrow.Author.Tests.{eqb-false, eq-eqb, ne-eqb, lt-ltb}
+use borrow.Author.Tests.{eqb-false, ne-eqb, lt-ltb}
 use Rattle.fingerprint.specs.declared.Key.{Key}
 use Rattle.fingerprint.specs.declared.Fingerprint.{Fingerprint}
-use Rattle.fingerprint.specs.Fingerprint.{p, same, empty, pushed, rest}
-use Rattle.fingerprint.proofs.Laws.{by-value}
+use Rattle.fingerprint.specs.Fingerprint.{same, empty, pushed, rest, bytePrint}
+use Rattle.fingerprint.proofs.Laws.{same-eq, eq-same, one-byte}
 use Rattle.ladder.specs.Prefix.{levels, prefixLength}
 use Rattle.ladder.proofs.Levels.{length-positive}
 use Rattle.lists.proofs.Cases.{by-test}
@@ -34,12 +33,10 @@ use Rattle.matcher.specs.Skip.{skipped, Unripe}
 use Rattle.matcher.proofs.StrokeFits.{stroke-fits}
 use Rattle.matcher.proofs.Visits.{visit-unripe}
 
--- the fingerprint of a block of one byte
-cut-back : (f r b : ℕ) → ((f * r + b) % p + (p - f * (1 * r) % p)) % p ≡ (0 * r + b) % p
-cut-back f r b = omega arith
-
-one-byte : (key : Key) (f : Fingerprint) (b n : ℕ) → n ≡ 1 → rest key (pushed key f b) f n ≡ pushed key empty b
-one-byte key f b n e = rw e (by-value _ _ (rw (pow-suc, pow-zero) (cut-back (f .value) (key .r) b)))
+-- the test of equality, turned round
+same-turned : (f g : Fingerprint) → same f g ≡ false → same g f ≡ false
+same-turned f g e =
+    by-test (same g f) (λ d. absurd (true≢false (sym (eq-same f g (sym (same-eq g f d))) ∙ e))) (λ d. d)
 
 descended-idle : (c : Round) (i : ℕ) (w : Walk) → ((j : ℕ) → j < i → ripe c j (stageAt (w .stages) j) ≡ false) → descended c i w ≡ w
 unfolding descended
@@ -57,25 +54,24 @@ module _ (key : Key) (first : Fingerprint) (input : List ℕ) (mark : Mark) wher
   unfolding skipped
   skipped-none n at e = rw e
 
-  module _ (n at : ℕ) (some : 0 < n) (inside : at < length input) (small : getD input at 0 < 256) where
+  module _ (n at : ℕ) (some : 0 < n) (inside : at < length input) where
     skipped-next :
         skipped key first n mark (drop at input)
-        ≡ cond (eqb (getD input at 0) (first .value)) mark
+        ≡ cond (same first (bytePrint (getD input at 0))) mark
         (skipped key first (n - 1) (nextMark key mark (getD input at 0)) (drop (at + 1) input))
     unfolding skipped
     skipped-next =
         let more : n ≡ suc (n - 1) = omega arith in
-        let byte : (0 * key .r + getD input at 0) % p ≡ getD input at 0 = omega arith in
-        ap (λ k. skipped key first k mark (drop at input)) more ∙ rw (drop-cons input at 0 inside, add-one, byte)
+        ap (λ k. skipped key first k mark (drop at input)) more ∙ rw (drop-cons input at 0 inside, add-one)
 
-    pub skipped-stop : getD input at 0 ≡ first .value → skipped key first n mark (drop at input) ≡ mark
-    skipped-stop e = skipped-next ∙ rw (eq-eqb _ _ e)
+    pub skipped-stop : same first (bytePrint (getD input at 0)) ≡ true → skipped key first n mark (drop at input) ≡ mark
+    skipped-stop e = skipped-next ∙ rw e
 
     pub skipped-step :
-        (getD input at 0 ≡ first .value → ⊥)
+        same first (bytePrint (getD input at 0)) ≡ false
         → skipped key first n mark (drop at input)
         ≡ skipped key first (n - 1) (nextMark key mark (getD input at 0)) (drop (at + 1) input)
-    skipped-step e = skipped-next ∙ rw (ne-eqb _ _ e)
+    skipped-step e = skipped-next ∙ rw e
 
 -- the watch with another t and F_t
 abbrev pub moved : Matcher → Mark → Matcher
@@ -105,7 +101,7 @@ pub record Skips (w : Matcher) (n : ℕ) (bytes : List ℕ) (now : Mark) : Type 
   pub same : scanned w bytes ≡ ahead taken taken (scanned (moved w now) (drop taken bytes))
 
 -- The byte b, at which no start is ripe, and which is not P_0.
-module _ (w : Matcher) (b : ℕ) (fits : matcherFits w ≡ true) (room : w .now .at < maxTaken) (unripe : Unripe (levels (w .signature .length)) (w .signature .length) (suc (w .now .at)) (w .stages)) (other : same (pushed (w .signature .key) empty b) (getD (w .signature .prints) 0 empty) ≡ false) where
+module _ (w : Matcher) (b : ℕ) (fits : matcherFits w ≡ true) (room : w .now .at < maxTaken) (unripe : Unripe (levels (w .signature .length)) (w .signature .length) (suc (w .now .at)) (w .stages)) (other : same (getD (w .signature .prints) 0 empty) (bytePrint b) ≡ false) where
   abbrev next : Mark
   next = nextMark (w .signature .key) (w .now) b
 
@@ -117,9 +113,12 @@ module _ (w : Matcher) (b : ℕ) (fits : matcherFits w ≡ true) (room : w .now 
 
   unlike : matches (record { signature = w .signature; now = next }) 0 (w .now) ≡ false
   unlike =
-      ap (λ (f : Fingerprint). same f (getD (w .signature .prints) 0 empty))
-      (one-byte (w .signature .key) (w .now .print) b (suc (w .now .at) - w .now .at) (omega arith))
-      ∙ other
+      let f : Fingerprint = getD (w .signature .prints) 0 empty in
+      let one : suc (w .now .at) - w .now .at ≡ 1 = omega arith in
+      let block : rest (w .signature .key) (next .print) (w .now .print) (suc (w .now .at) - w .now .at) ≡ bytePrint b =
+      rw one (one-byte (w .signature .key) (w .now .print) b)
+      in
+      rw block (same-turned f (bytePrint b) other)
 
   walked-quietly : walked w b ≡ record { stages = w .stages; answer = compared noAnswer }
   unfolding walkedFrom tried
@@ -199,7 +198,7 @@ SkipsAll n bytes =
 skips-more : (n b : ℕ) (bytes : List ℕ) → SkipsAll n bytes → SkipsAll (suc n) (b ∷ bytes)
 unfolding skipped
 skips-more n b bytes more w fits room unripe =
-    by-test (same (pushed (w .signature .key) empty b) (first w))
+    by-test (same (first w) (bytePrint b))
     (λ e. rw e (no-skips w (suc n) (b ∷ bytes) fits))
     (λ e.
     let t : ℕ = w .now .at in

@@ -1,6 +1,6 @@
 -- One byte's walk over the stages: what the loop keeps, so that each stage fits where it is visited and every number stays in range.
 -- Assumes nothing.
-use Prim.Native.Nat.{ℕ, suc, _+_, _-_, _^_, _%_, _≤_, _<_}
+use Prim.Native.Nat.{ℕ, suc, _+_, _-_, _≤_, _<_}
 use mathlib.Core.Path.{_≡_, refl, sym, _∙_, ap}
 use mathlib.Core.Bool.{true, false, not}
 use mathlib.Core.List.{List}
@@ -10,7 +10,8 @@ use borrow.Author.Tests.{eqb-true, eqb-false, not-true}
 use lib.Dec.{eqb}
 use lib.ListN.{getD}
 use Rattle.fingerprint.specs.declared.Key.{Key}
-use Rattle.fingerprint.specs.Fingerprint.{p}
+use Rattle.fingerprint.specs.declared.Power.{Power}
+use Rattle.fingerprint.specs.Fingerprint.{power, noPower}
 use Rattle.ladder.specs.Prefix.{levels, prefixLength}
 use Rattle.ladder.proofs.Levels.{levels-bound, first-length}
 use Rattle.lists.proofs.Laws.{every-at, and-left, and-right}
@@ -143,12 +144,12 @@ module _ (c : Round) (k n : ℕ) (before w : Walk) (pos : 0 < n) (q : Turn c k n
     due = rw next ripe-now
 
     pub turn-shift :
-        (shifts : List ℕ) → Shifts key m shifts → getD shifts n 0 ≡ key .r ^ (c .now .at - stage .first .at) % p
+        (shifts : List Power) → Shifts key m shifts → getD shifts n noPower ≡ power key (c .now .at - stage .first .at)
     turn-shift shifts table =
         let age : stage .first .at + prefixLength m n ≡ c .now .at =
         eqb-true (stage .first .at + prefixLength m n) (c .now .at) (and-right (not (eqb (stage .held) 0)) _ ripe-now)
         in
-        table n (omega (arith, q .last, q .within)) ∙ ap (λ (x : ℕ). key .r ^ x % p) (omega arith)
+        table n (omega (arith, q .last, q .within)) ∙ ap (power key) (omega arith)
 
     module _ (rest : Stage) (left : rest ≡ takeOffOf key stage) where
       abbrev shorter : Stages
@@ -245,11 +246,11 @@ module _ (c : Round) (k : ℕ) (start : Mark) (stages : Stages) (w : Walk) (last
 
 -- the power by which the block of one byte is cut out
 pub first-shift :
-    (c : Round) (start : Mark) (shifts : List ℕ)
+    (c : Round) (start : Mark) (shifts : List Power)
     → 1 ≤ c .signature .length
     → c .now .at ≡ suc (start .at)
     → Shifts (c .signature .key) (c .signature .length) shifts
-    → getD shifts 0 0 ≡ c .signature .key .r ^ (c .now .at - start .at) % p
+    → getD shifts 0 noPower ≡ power (c .signature .key) (c .now .at - start .at)
 first-shift c start shifts low e table =
     table 0 (omega arith)
-    ∙ ap (λ (x : ℕ). c .signature .key .r ^ x % p) (omega (arith, e, first-length (c .signature .length) low))
+    ∙ ap (power (c .signature .key)) (omega (arith, e, first-length (c .signature .length) low))

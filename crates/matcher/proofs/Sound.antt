@@ -1,15 +1,14 @@
 -- What it says of a watch that it is no misfit, and what becomes of one whose byte is taken.
 -- Assumes nothing.
 use Prim.Native.Nat.{ℕ, _<_}
-use mathlib.Core.Path.{_≡_, ap}
+use mathlib.Core.Path.{_≡_}
 use mathlib.Core.Bool.{true, cond}
 use mathlib.Core.List.{[], _∷_}
 use native.Mathlib.Omega.{arith}
 use lib.Dec.{eqb}
-use borrow.Author.Tests.{eqb-true, ltb-true, lt-ltb}
-use Rattle.fingerprint.specs.declared.Fingerprint.{Fingerprint}
-use Rattle.fingerprint.specs.Fingerprint.{p, printFits, same, empty}
-use Rattle.fingerprint.proofs.Laws.{by-value}
+use borrow.Author.Tests.{eqb-true}
+use Rattle.fingerprint.specs.Fingerprint.{Below, printFits, same, empty}
+use Rattle.fingerprint.proofs.Laws.{same-eq, eq-same, fits-below, below-fits}
 use Rattle.lists.proofs.Laws.{every-at, every-intro}
 use Rattle.lists.proofs.Cases.{by-test, each}
 use Rattle.signature.specs.Signature.{signatureFits}
@@ -23,7 +22,7 @@ use Rattle.matcher.specs.Stroke.{nextMark, walked, strokeRefusal, afterS
 -- What a watch that is no misfit says of itself.
 pub record Sound (w : Matcher) : Type 0 where
   pub card : signatureFits (w .signature) ≡ true
-  pub print : w .now .print .value < p
+  pub print : Below (w .now .print)
   pub starts : w .now .at ≡ 0 → w .now .print ≡ empty
   pub stage : (i : ℕ) → i < stageCount → Fit (w .signature .length) i (w .now .at) (w .now .at) (stageAt (w .stages) i)
 
@@ -40,8 +39,8 @@ sound w e =
     in
     record {
       card = q .0;
-      print = ltb-true _ _ (q .1 .0);
-      starts = λ z. by-value _ _ (eqb-true _ _ (rw z at (q .1 .1 .0)));
+      print = fits-below _ (q .1 .0);
+      starts = λ z. same-eq _ _ (rw z at (q .1 .1 .0));
       stage = λ i l. fit-of _ i _ _ (every-at _ stageCount (q .1 .1 .1 .0) i l);
     }
 
@@ -55,8 +54,8 @@ stages-fit w q = every-intro _ stageCount (λ i l. fits-of _ i _ _ (q .stage i l
 pub sound-fits : (w : Matcher) → Sound w → matcherFits w ≡ true
 unfolding matcherFits
 sound-fits w q =
-    rw (q .card, lt-ltb (w .now .print .value) p (q .print), stages-fit w q)
-    (by-test (eqb (w .now .at) 0) (λ e. rw (e, ap (λ (f : Fingerprint). f .value) (q .starts (eqb-true _ _ e)))) (λ e. rw e))
+    rw (q .card, below-fits _ (q .print), stages-fit w q)
+    (by-test (eqb (w .now .at) 0) (λ e. rw (e, eq-same (w .now .print) empty (q .starts (eqb-true _ _ e)))) (λ e. rw e))
 
 pub taken-fits : (w : Matcher) → strokeRefusal w ≡ 0 → matcherFits w ≡ true
 taken-fits w e =

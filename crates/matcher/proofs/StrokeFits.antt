@@ -8,7 +8,8 @@ use native.Mathlib.Decide.{ℕ-discrete}
 use native.Mathlib.Omega.{arith}
 use lib.Dec.{eqb}
 use borrow.Author.Tests.{eqb-true, eqb-false, not-true, eq-eqb, ne-eqb}
-use Rattle.fingerprint.specs.Fingerprint.{p}
+use Rattle.fingerprint.specs.Fingerprint.{Below}
+use Rattle.fingerprint.proofs.Laws.{pushed-below}
 use Rattle.ladder.specs.Prefix.{levels, prefixLength}
 use Rattle.ladder.proofs.Levels.{first-length, levels-bound}
 use Rattle.lists.proofs.Laws.{and-left, and-right}
@@ -83,7 +84,7 @@ module _ (c : Round) (t : ℕ) (now : c .now .at ≡ suc t) where
       (i : ℕ) (start : Mark) (w : Walk)
       → i ≤ levels m
       → start .at + prefixLength m i ≡ suc t
-      → start .print .value < p
+      → Below (start .print)
       → Fit m i t (suc t) (stageAt (w .stages) i)
       → Fit m i (suc t) (suc t) (stageAt (tried c i start w .stages) i)
   tried-here i start w l due print q =
@@ -192,7 +193,7 @@ stroke-fits w b e =
     rw (after-taken w b e)
     (sound-fits _ (record {
       card = q .card;
-      print = omega arith;
+      print = pushed-below (w .signature .key) (w .now .print) b;
       starts = λ z. absurd (omega arith);
       stage = walked-fit w b q;
     }))

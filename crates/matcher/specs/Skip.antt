@@ -1,13 +1,14 @@
 -- Definitions for the functions behind `stroke` and `scan`: powers of r are found once for all stages, and bytes that can change no stage
 -- are passed over together.
-use Prim.Native.Nat.{ℕ, zero, suc, _+_, _^_, _%_, _≤_, _<_}
+use Prim.Native.Nat.{ℕ, zero, suc, _+_, _≤_, _<_}
 use mathlib.Core.Path.{_≡_}
 use mathlib.Core.Bool.{cond}
 use mathlib.Core.List.{List, [], _∷_}
 use lib.ListN.{getD}
 use Rattle.fingerprint.specs.declared.Key.{Key}
+use Rattle.fingerprint.specs.declared.Power.{Power}
 use Rattle.fingerprint.specs.declared.Fingerprint.{Fingerprint}
-use Rattle.fingerprint.specs.Fingerprint.{p, same, empty, pushed}
+use Rattle.fingerprint.specs.Fingerprint.{same, bytePrint, power, noPower}
 use Rattle.ladder.specs.Prefix.{levels, prefixLength}
 use Rattle.refusal.specs.declared.Verdict.{Verdict}
 use Rattle.refusal.specs.Number.{number}
@@ -18,16 +19,16 @@ use Rattle.matcher.specs.declared.Scan.{Scan}
 use Rattle.matcher.specs.Stroke.{nextMark, noAnswer}
 use Rattle.matcher.specs.Scan.{Scanned}
 
--- r to |P_i|, modulo p, for each tested beginning P_0 .. P_k.
-abbrev pub Shifts : Key → ℕ → List ℕ → Type 0
-Shifts key m shifts = (i : ℕ) → i ≤ levels m → getD shifts i 0 ≡ key .r ^ prefixLength m i % p
+-- r to |P_i| for each tested beginning P_0 .. P_k.
+abbrev pub Shifts : Key → ℕ → List Power → Type 0
+Shifts key m shifts = (i : ℕ) → i ≤ levels m → getD shifts i noPower ≡ power key (prefixLength m i)
 
--- t and F_t behind the bytes passed over: at most n of them, and none from the first on whose fingerprint is the one given.
+-- t and F_t behind the bytes passed over: at most n of them, and none from the first byte on that has the fingerprint given.
 unfoldable pub skipped : Key → Fingerprint → ℕ → Mark → List ℕ → Mark
 skipped key first zero now bytes = now
 skipped key first (suc n) now [] = now
 skipped key first (suc n) now (byte ∷ bytes) =
-    cond (same (pushed key empty byte) first) now (skipped key first n (nextMark key now byte) bytes)
+    cond (same first (bytePrint byte)) now (skipped key first n (nextMark key now byte) bytes)
 
 -- No start of the stages below k becomes ripe up to t.
 abbrev pub Unripe : ℕ → ℕ → ℕ → Stages → Type 0

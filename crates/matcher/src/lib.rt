@@ -1,11 +1,11 @@
 // The streaming matcher (document 01, "Ladder"): a watch in a few hundred bytes, and its answer to each byte.
 ghost use mathlib.Core.Path.{_≡_};
 ghost use mathlib.Core.Bool.{true, cond, not, _&&_};
-ghost use Prim.Native.Nat.{_+_, _-_, _*_, _^_, _%_, _≤_, _<_, suc, min};
+ghost use Prim.Native.Nat.{_+_, _-_, _≤_, _<_, suc, min};
 ghost use lib.Dec.{leb, ltb, eqb};
 ghost use lib.ListN.{length, drop, getD};
 ghost use Rattle.fingerprint.specs.declared.Key.{Key};
-ghost use Rattle.fingerprint.specs.Fingerprint.{p, same};
+ghost use Rattle.fingerprint.specs.Fingerprint.{same, power};
 ghost use Rattle.ladder.specs.Prefix.{levels, prefixLength};
 ghost use Rattle.refusal.specs.Number.{number};
 ghost use Rattle.signature.specs.Signature.{maxLength};
@@ -17,6 +17,7 @@ ghost use Rattle.matcher.specs.Scan.{silent, scanned, scanOf};
 ghost use Rattle.matcher.specs.Skip.{Shifts, skipped, Unripe, silentEnd, Ends};
 use fingerprint::Fingerprint;
 use fingerprint::Key;
+use fingerprint::Power;
 use refusal::Refusal;
 use refusal::Verdict;
 use signature::Signature;
@@ -26,6 +27,9 @@ use stage::Mark;
 use stage::Progression;
 use stage::STAGES;
 use stage::Stage;
+
+// Places for the powers of P_0 to P_20.
+const PLACES: usize = STAGES + 1;
 
 // A watch: its card, t with F_t, and its stages.
 pub struct Matcher {
@@ -165,8 +169,8 @@ impl Answer {
 }
 
 // Whether the block from a start to now has the fingerprint of P_i, where `shift` is r to the block's length.
-fn matches(shift: u32, start: Mark, now: Mark, print: Fingerprint) -> bool
-    ensures { λ ok. ⌜ ((key : Key) → shift ≡ key .r ^ (now .at - start .at) % p → ok ≡ same (gapTo key start now .print) print) ⌝ }
+fn matches(shift: Power, start: Mark, now: Mark, print: Fingerprint) -> bool
+    ensures { λ ok. ⌜ ((key : Key) → shift ≡ power key (now .at - start .at) → ok ≡ same (gapTo key start now .print) print) ⌝ }
 {
     let front = start.print;
     let block = now.print.cut_by(front, shift);
@@ -198,27 +202,29 @@ fn admit(key: Key, k: u32, start: Mark, w: Walk) -> Walk
     }
 }
 
-// r to |P_i|, modulo P, for each tested beginning P_0 .. P_k of m bytes.
-fn shifts(key: Key, m: u32) -> [u32; 21]
+// r to |P_i| for each tested beginning P_0 .. P_k of m bytes.
+fn shifts(key: Key, m: u32) -> [Power; PLACES]
     requires { ⌜ m ≤ maxLength ⌝ }
     ensures { λ r. ⌜ Shifts key m r ⌝ }
 {
     let k = signature::levels(m);
-    let mut shifts = [0u32; 21];
+    let nothing = Power::none();
+    let mut shifts = [nothing; PLACES];
     let mut square = key.power(1);
     let mut i: u32 = 0;
     while i < k {
-        shifts[i as usize] = square as u32;
-        square = square * square % Fingerprint::P;
+        shifts[i as usize] = square;
+        square = square.squared();
         i = i + 1;
     }
-    shifts[k as usize] = key.power(m as u64) as u32;
+    let whole = key.power(m as u64);
+    shifts[k as usize] = whole;
     shifts
 }
 
 // One byte's walk over the stages, from the highest down: a ripe start is taken off and compared; on a match it rings or enters the stage
 // above.
-fn descend(c: Round, k: u32, shifts: [u32; 21], before: [Stage; STAGES]) -> Walk
+fn descend(c: Round, k: u32, shifts: [Power; PLACES], before: [Stage; STAGES]) -> Walk
     requires { ⌜ (c .signature .length ≤ maxLength) × (k ≡ levels (c .signature .length)) × Shifts (c .signature .key) (c .signature .length) shifts × (1 ≤ c .now .at) × (stagesFit (c .signature .length) (c .now .at - 1) before ≡ true) ⌝ }
     ensures { λ r. ⌜ r ≡ descended c k (record { stages = before; answer = noAnswer }) ⌝ }
     ensures { λ r. ⌜ (canEnter (stageAt (r .stages) 0) ≡ true) × (r .answer .asides < stageCount) × (r .answer .comparisons ≤ stageCount) ⌝ }
@@ -266,7 +272,7 @@ fn descend(c: Round, k: u32, shifts: [u32; 21], before: [Stage; STAGES]) -> Walk
 }
 
 // One byte's walk: the stages, and then the start before the byte, which is compared with P_0.
-fn climb(c: Round, shifts: [u32; 21], start: Mark, before: [Stage; STAGES]) -> Walk
+fn climb(c: Round, shifts: [Power; PLACES], start: Mark, before: [Stage; STAGES]) -> Walk
     requires { ⌜ (1 ≤ c .signature .length) × (c .signature .length ≤ maxLength) × Shifts (c .signature .key) (c .signature .length) shifts × (c .now .at ≡ suc (start .at)) × (stagesFit (c .signature .length) (start .at) before ≡ true) ⌝ }
     ensures { λ r. ⌜ r ≡ walkedFrom c start before ⌝ }
 {
@@ -306,7 +312,7 @@ fn skip(key: Key, first: Fingerprint, until: u32, start: Mark, input: &[u8], fro
     let mut mark = start;
     while at < end {
         let byte = input[at];
-        if (byte as u32) == first.value {
+        if first.equals(Fingerprint::of_byte(byte)) {
             return mark;
         }
         mark = next_mark(key, mark, byte);

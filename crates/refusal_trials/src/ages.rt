@@ -1,7 +1,6 @@
 // Watches made by hand that list one start or two: t - start is from |P_i| to |P_(i+1)| - 1.
 use crate::calls::all_calls;
 use crate::cards::card_of;
-use crate::changes::print_of;
 use crate::print::say;
 use crate::print::words;
 use fingerprint::Fingerprint;
@@ -14,7 +13,7 @@ use stage::Stage;
 fn mark(at: u32) -> Mark {
     Mark {
         at,
-        print: print_of(12345),
+        print: Fingerprint::of_number(12345),
     }
 }
 

@@ -7,9 +7,7 @@ use crate::changes::LENGTH;
 use crate::changes::NONE;
 use crate::changes::PRINTS;
 use crate::changes::changed_card;
-use crate::changes::key_of;
 use crate::changes::pick;
-use crate::changes::print_of;
 use crate::compare::same_matcher;
 use crate::compare::same_signature;
 use crate::meeting::meet;
@@ -17,6 +15,7 @@ use crate::names::say_card_change;
 use crate::print::say;
 use crate::print::words;
 use fingerprint::Fingerprint;
+use fingerprint::Key;
 use matcher::Matcher;
 use record::Written;
 use record::checkpoint::Restored;
@@ -59,17 +58,17 @@ fn nothing() -> Matcher {
 
 // A card of the longest passage, whose prints are all 1.
 fn longest_card() -> Signature {
-    let print = print_of(1);
+    let print = Fingerprint::of_number(1);
     Signature {
         length: 1048576,
-        key: key_of(5),
+        key: Key::new(5),
         prints: [print; 21],
     }
 }
 
 // The card of a passage under key 2, as the maker finishes it; a refusal of any call before shows in its verdict.
 pub(crate) fn made(passage: &[u8]) -> Finished {
-    let begun = Builder::begin(short(passage.len()), key_of(2));
+    let begun = Builder::begin(short(passage.len()), Key::new(2));
     let mut builder = begun.builder;
     let mut i: usize = 0;
     while i < passage.len() {

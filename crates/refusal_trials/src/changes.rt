@@ -58,24 +58,9 @@ pub(crate) fn pick(chosen: bool, value: u32, other: u32) -> u32 {
     if chosen { value } else { other }
 }
 
-// A number as a fingerprint.
-pub(crate) fn print_of(number: u32) -> Fingerprint {
-    Fingerprint { value: number }
-}
-
-// A fingerprint's number, or another.
+// A print with its number replaced, or as it was.
 fn picked(chosen: bool, value: u32, print: Fingerprint) -> Fingerprint {
-    print_of(pick(chosen, value, print.value))
-}
-
-// A number as a key.
-pub(crate) fn key_of(number: u32) -> Key {
-    Key { r: number }
-}
-
-// A key's number.
-fn key_number(key: Key) -> u32 {
-    key.r
+    Fingerprint::of_number(pick(chosen, value, print.number()))
 }
 
 // The prints of a card, where the place is one of theirs.
@@ -85,7 +70,7 @@ fn changed_prints(before: [Fingerprint; 21], place: u32, value: u32) -> [Fingerp
         return prints;
     }
     if place - PRINTS < 21 {
-        prints[(place - PRINTS) as usize] = print_of(value);
+        prints[(place - PRINTS) as usize] = Fingerprint::of_number(value);
     }
     prints
 }
@@ -96,7 +81,7 @@ pub(crate) fn changed_builder(b: Builder, place: u32, value: u32) -> Builder {
     let prints = changed_prints(before, place, value);
     Builder {
         length: pick(place == LENGTH, value, b.length),
-        key: key_of(pick(place == KEY, value, key_number(b.key))),
+        key: Key::new(pick(place == KEY, value, b.key.number())),
         taken: pick(place == TAKEN, value, b.taken),
         print: picked(place == RUNNING, value, b.print),
         prints,
@@ -109,7 +94,7 @@ pub(crate) fn changed_card(s: Signature, place: u32, value: u32) -> Signature {
     let prints = changed_prints(before, place, value);
     Signature {
         length: pick(place == LENGTH, value, s.length),
-        key: key_of(pick(place == KEY, value, key_number(s.key))),
+        key: Key::new(pick(place == KEY, value, s.key.number())),
         prints,
     }
 }

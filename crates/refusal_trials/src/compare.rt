@@ -1,18 +1,13 @@
 // Whether two values are equal, field by field.
 use fingerprint::Fingerprint;
-use fingerprint::Key;
 use matcher::Answer;
-use matcher::Gap;
-use matcher::Mark;
 use matcher::Matcher;
-use matcher::Progression;
 use matcher::Ring;
-use matcher::Stage;
 use signature::Signature;
-
-pub(crate) fn same_key(a: Key, b: Key) -> bool {
-    a.r == b.r
-}
+use stage::Gap;
+use stage::Mark;
+use stage::Progression;
+use stage::Stage;
 
 fn same_mark(a: Mark, b: Mark) -> bool {
     a.at == b.at && a.print.equals(b.print)
@@ -54,7 +49,7 @@ fn same_stages(a: [Stage; 20], b: [Stage; 20]) -> bool {
 pub(crate) fn same_signature(a: Signature, b: Signature) -> bool {
     let x = a.prints;
     let y = b.prints;
-    a.length == b.length && same_key(a.key, b.key) && same_prints(x, y)
+    a.length == b.length && a.key.equals(b.key) && same_prints(x, y)
 }
 
 pub(crate) fn same_matcher(a: Matcher, b: Matcher) -> bool {

@@ -6,14 +6,13 @@ use crate::changes::PRINTS;
 use crate::changes::RUNNING;
 use crate::changes::TAKEN;
 use crate::changes::changed_builder;
-use crate::changes::key_of;
-use crate::compare::same_key;
 use crate::compare::same_signature;
 use crate::meeting::meet;
 use crate::names::say_card_change;
 use crate::print::say;
 use crate::print::words;
 use fingerprint::Fingerprint;
+use fingerprint::Key;
 use signature::Builder;
 use signature::Signature;
 
@@ -22,7 +21,7 @@ fn blank(length: u32, key: u32) -> Builder {
     let nothing = Fingerprint::empty();
     Builder {
         length,
-        key: key_of(key),
+        key: Key::new(key),
         taken: 0,
         print: nothing,
         prints: [nothing; 21],
@@ -40,7 +39,7 @@ fn due(row: [u32; 3]) -> Builder {
 // A card is begun with this verdict. A row: length, key, number.
 fn begin(row: [u32; 3], tally: &mut [u32]) {
     say(b"begin, length #, key #:", &row);
-    let begun = Builder::begin(row[0], key_of(row[1]));
+    let begun = Builder::begin(row[0], Key::new(row[1]));
     let verdict = begun.verdict;
     let holds = same_builder(begun.builder, due(row));
     meet(verdict, row[2], holds, tally);
@@ -115,7 +114,7 @@ fn is_next(before: Builder, after: Builder, number: u32) -> bool {
     if number != 0 {
         return same_builder(before, after);
     }
-    let same_head = before.length == after.length && same_key(before.key, after.key);
+    let same_head = before.length == after.length && before.key.equals(after.key);
     same_head && std::num::wrapping_add_u32(before.taken, 1) == after.taken
 }
 
@@ -145,7 +144,7 @@ fn finish(builder: Builder, number: u32, tally: &mut [u32]) {
 
 // A half-made card for m bytes, of which so many are taken.
 fn half_made(m: u32, taken: u32) -> Builder {
-    let begun = Builder::begin(m, key_of(7));
+    let begun = Builder::begin(m, Key::new(7));
     let mut builder = begun.builder;
     let mut i: u32 = 0;
     while i < taken {

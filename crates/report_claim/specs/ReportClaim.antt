@@ -22,8 +22,8 @@ abbrev pub linesFrom : ℕ → History → List ℕ
 linesFrom n [] = []
 linesFrom n (x ∷ h) = reportLines (suc n) (x .answer) ++ linesFrom (suc n) h
 
--- What stands last, of a stream of so many bytes: "`X number` for a refusal, which ends reading", 6 for a byte past those that a watch takes,
--- and "last `E t total`".
+-- What stands last, of a stream of so many bytes: "`X number` for a refusal, which ends reading", 6 for a byte past those that a watch
+-- takes, and "last `E t total`".
 abbrev pub closing : ℕ → ℕ → ℕ → List ℕ
 closing many t total = cond (leb many maxTaken) [] (lineX 6) ++ lineE t total
 

@@ -7,8 +7,8 @@ use mathlib.Core.List.{[], _∷_}
 use native.Mathlib.Omega.{arith}
 use lib.Dec.{ltb, leb, eqb}
 use borrow.Author.Tests.{ltb-true, leb-true, eqb-true, eqb-false, not-true, lt-ltb, le-leb, eq-eqb, ne-eqb}
-use Rattle.fingerprint.specs.Fingerprint.{p, printFits}
-use Rattle.fingerprint.proofs.Laws.{by-value}
+use Rattle.fingerprint.specs.Fingerprint.{Below, printFits, empty}
+use Rattle.fingerprint.proofs.Laws.{same-eq, same-self, fits-below, below-fits, empty-below}
 use Rattle.ladder.specs.Prefix.{levels, prefixLength}
 use Rattle.lists.proofs.Laws.{and-left, and-right}
 use Rattle.stage.specs.declared.Mark.{Mark}
@@ -25,7 +25,7 @@ pub record Aged (m i lo hi start : ℕ) : Type 0 where
 pub record One (m i lo hi : ℕ) (s : Stage) : Type 0 where
   pub below : i < levels m
   pub shape : s ≡ alone (s .first)
-  pub print : s .first .print .value < p
+  pub print : Below (s .first .print)
   pub aged : Aged m i lo hi (s .first .at)
 
 -- The stage lists two starts and `more` others.
@@ -33,9 +33,9 @@ pub record Many (m i lo hi : ℕ) (s : Stage) : Type 0 where
   pub below : i < levels m
   pub more : ℕ
   pub held : s .held ≡ suc (suc more)
-  pub first-print : s .first .print .value < p
-  pub last-print : s .last .print .value < p
-  pub step-print : s .step .print .value < p
+  pub first-print : Below (s .first .print)
+  pub last-print : Below (s .last .print)
+  pub step-print : Below (s .step .print)
   pub first-aged : Aged m i lo hi (s .first .at)
   pub last-aged : Aged m i lo hi (s .last .at)
   pub moves : 0 < s .step .length
@@ -49,13 +49,13 @@ pub data Fit (m i lo hi : ℕ) (s : Stage) : Type 0 where
 pub same-mark : (a b : Mark) → sameMark a b ≡ true → a ≡ b
 same-mark a b e =
     let at : a .at ≡ b .at = eqb-true _ _ (and-left _ _ e) in
-    let print : a .print ≡ b .print = by-value _ _ (eqb-true _ _ (and-right (eqb (a .at) (b .at)) _ e)) in
+    let print : a .print ≡ b .print = same-eq _ _ (and-right (eqb (a .at) (b .at)) _ e) in
     λ i. record { at = at i; print = print i }
 
 pub same-gap : (a b : Gap) → sameGap a b ≡ true → a ≡ b
 same-gap a b e =
     let length : a .length ≡ b .length = eqb-true _ _ (and-left _ _ e) in
-    let print : a .print ≡ b .print = by-value _ _ (eqb-true _ _ (and-right (eqb (a .length) (b .length)) _ e)) in
+    let print : a .print ≡ b .print = same-eq _ _ (and-right (eqb (a .length) (b .length)) _ e) in
     λ i. record { length = length i; print = print i }
 
 -- a stage is its fields
@@ -90,7 +90,7 @@ module _ (m i t : ℕ) (s : Stage) where
       record {
         below = l;
         shape = stage-by z refl (same-mark _ _ (q .1 .1 .0)) (same-gap _ _ (q .1 .1 .1 .0));
-        print = omega (arith, ltb-true);
+        print = fits-below _ (q .0);
         aged = aged-of (s .first .at) (q .1 .0);
       }
 
@@ -112,9 +112,9 @@ module _ (m i t : ℕ) (s : Stage) where
         below = l;
         more = s .held - 2;
         held = omega arith;
-        first-print = omega (arith, ltb-true);
-        last-print = omega (arith, ltb-true);
-        step-print = omega (arith, ltb-true);
+        first-print = fits-below _ (q .0);
+        last-print = fits-below _ (q .1 .0);
+        step-print = fits-below _ (q .1 .1 .0);
         first-aged = aged-of _ (q .1 .1 .1 .0);
         last-aged = aged-of _ (q .1 .1 .1 .1 .0);
         moves = omega (arith, eqb-false (s .step .length) 0 (not-true (eqb (s .step .length) 0) (q .1 .1 .1 .1 .1 .0)));
@@ -135,8 +135,18 @@ module _ (m i t : ℕ) (s : Stage) where
 
   pub fits-of : Fit m i t t s → stageFits m i t s ≡ true
   unfolding stageFits noneFits oneFits manyFit
-  fits-of (idle e) = rw e
-  fits-of (single q) = rw (q .shape) (search (lt-ltb, le-leb, eq-eqb, arith))
+  fits-of (idle e) = rw e (rw (same-self empty))
+  fits-of (single q) =
+      rw (q .shape)
+      (rw (
+        lt-ltb i (levels m) (q .below),
+        below-fits _ (q .print),
+        le-leb (s .first .at + short) t (q .aged .old),
+        lt-ltb t (s .first .at + long) (q .aged .young),
+        same-self (s .first .print),
+        same-self empty,
+        eq-eqb (s .first .at) (s .first .at) refl,
+      ))
   fits-of (several q) =
       let ends : s .last .at ≡ s .first .at + (s .held - 1) * s .step .length =
       q .ends ∙ ap (λ n. s .first .at + n * s .step .length) (omega arith)
@@ -147,11 +157,18 @@ module _ (m i t : ℕ) (s : Stage) where
         ne-eqb (s .step .length) 0 (omega arith),
         eq-eqb _ _ ends,
         stageFits,
+        lt-ltb i (levels m) (q .below),
+        below-fits _ (q .first-print),
+        below-fits _ (q .last-print),
+        below-fits _ (q .step-print),
+        le-leb (s .first .at + short) t (q .first-aged .old),
+        lt-ltb t (s .first .at + long) (q .first-aged .young),
+        le-leb (s .last .at + short) t (q .last-aged .old),
+        lt-ltb t (s .last .at + long) (q .last-aged .young),
       )
-      (search (lt-ltb, le-leb, arith))
 
-pub fit-print : (m i lo hi : ℕ) (s : Stage) → Fit m i lo hi s → s .first .print .value < p
-fit-print m i lo hi s (idle e) = rw e (omega arith)
+pub fit-print : (m i lo hi : ℕ) (s : Stage) → Fit m i lo hi s → Below (s .first .print)
+fit-print m i lo hi s (idle e) = rw e empty-below
 fit-print m i lo hi s (single q) = q .print
 fit-print m i lo hi s (several q) = q .first-print
 

@@ -7,7 +7,8 @@ use native.Mathlib.Omega.{arith}
 use lib.Dec.{eqb}
 use borrow.Author.Tests.{eqb-true, eqb-false, ne-eqb}
 use Rattle.fingerprint.specs.declared.Key.{Key}
-use Rattle.fingerprint.specs.Fingerprint.{p}
+use Rattle.fingerprint.specs.Fingerprint.{Below}
+use Rattle.fingerprint.proofs.Laws.{joined-below, rest-below}
 use Rattle.ladder.specs.Prefix.{levels, prefixLength}
 use Rattle.ladder.proofs.Levels.{length-rises}
 use Rattle.lists.proofs.Laws.{and-left}
@@ -79,7 +80,7 @@ module _ (m i t : ℕ) (s : Stage) where
       let zero-more : q .more ≡ 0 = omega arith in
       let ends : s .last .at ≡ s .first .at + s .step .length = rw zero-more at (q .ends) ∙ omega arith in
       rw (ne-eqb (s .held) 1 (omega arith), e, takenOff)
-      (single (record { below = q .below; shape = refl; print = omega arith; aged = omega arith })))
+      (single (record { below = q .below; shape = refl; print = joined-below key _ _ _; aged = omega arith })))
       (λ e.
       let three : s .held ≡ 2 → ⊥ = eqb-false _ _ e in
       let ends : s .last .at ≡ s .first .at + suc (suc (q .more - 1)) * s .step .length =
@@ -90,7 +91,7 @@ module _ (m i t : ℕ) (s : Stage) where
         below = q .below;
         more = q .more - 1;
         held = omega arith;
-        first-print = omega arith;
+        first-print = joined-below key _ _ _;
         last-print = q .last-print;
         step-print = q .step-print;
         first-aged = omega arith;
@@ -100,13 +101,13 @@ module _ (m i t : ℕ) (s : Stage) where
       })))
 
   -- A newcomer of the right age enters: alone, behind a start that is kept alone, or at the end of the progression.
-  module _ (key : Key) (new : Mark) (below : i < levels m) (due : new .at + prefixLength m i ≡ suc t) (print : new .print .value < p) where
+  module _ (key : Key) (new : Mark) (below : i < levels m) (due : new .at + prefixLength m i ≡ suc t) (print : Below (new .print)) where
     fit-alone : Fit m i (suc t) (suc t) (alone new)
     fit-alone =
         single (record { below = below; shape = refl; print = print; aged = omega (arith, length-rises m i below) })
 
     fit-pair :
-        s .last .print .value < p
+        Below (s .last .print)
         → Aged m i t (suc t) (s .last .at)
         → Fit m i (suc t) (suc t) (record { held = 2; first = s .last; last = new; step = gapTo key (s .last) new })
     fit-pair l a =
@@ -116,7 +117,7 @@ module _ (m i t : ℕ) (s : Stage) where
           held = refl;
           first-print = l;
           last-print = print;
-          step-print = omega arith;
+          step-print = rest-below key _ _ _;
           first-aged = omega arith;
           last-aged = omega (arith, length-rises m i below);
           moves = omega arith;

@@ -1,7 +1,6 @@
 // Whether two values are equal, field by field.
 use crate::cards::accepted;
 use fingerprint::Fingerprint;
-use fingerprint::Key;
 use matcher::Answer;
 use matcher::Matcher;
 use matcher::Ring;
@@ -11,10 +10,6 @@ use stage::Gap;
 use stage::Mark;
 use stage::Progression;
 use stage::Stage;
-
-fn same_key(a: Key, b: Key) -> bool {
-    a.r == b.r
-}
 
 fn same_mark(a: Mark, b: Mark) -> bool {
     a.at == b.at && a.print.equals(b.print)
@@ -56,7 +51,7 @@ fn same_stages(a: [Stage; 20], b: [Stage; 20]) -> bool {
 pub(crate) fn same_signature(a: Signature, b: Signature) -> bool {
     let x = a.prints;
     let y = b.prints;
-    a.length == b.length && same_key(a.key, b.key) && same_prints(x, y)
+    a.length == b.length && a.key.equals(b.key) && same_prints(x, y)
 }
 
 pub(crate) fn same_matcher(a: Matcher, b: Matcher) -> bool {

@@ -17,8 +17,8 @@ descend-requires c κs =
 add-answer : tie.Need-add-answer
 add-answer c = search needs
 
-array-read-shift : tie.Need-array-read-shift
-array-read-shift c = search needs
+array-copy-out-shift : tie.Need-array-copy-out-shift
+array-copy-out-shift c = search needs
 
 array-copy-out-print : tie.Need-array-copy-out-print
 array-copy-out-print c = search needs
@@ -28,16 +28,16 @@ matches-requires c κs = search needs
 
 admit-requires : tie.Need-admit-requires
 admit-requires c κs =
-    let room = c .before .before .before .before .before .before .before .descend .ensures .1 in
+    let room = c .before .before .before .before .before .before .before .before .descend .ensures .1 in
     (room .0, room .1)
 
 returns : tie.Need-returns
 returns c =
-    let levels = c .before .before .before .before .before .before .before .before .before .levels in
-    let descend = c .before .before .before .before .before .before .before .before .descend in
+    let levels = c .before .before .before .before .before .before .before .before .before .before .levels in
+    let descend = c .before .before .before .before .before .before .before .before .before .descend in
     let matches = c .before .before .matches in
-    let args = c .before .before .before .before .before .before .before .before .before .before .args in
-    let pre = c .before .before .before .before .before .before .before .before .before .before .pre in
+    let args = c .before .before .before .before .before .before .before .before .before .before .before .args in
+    let pre = c .before .before .before .before .before .before .before .before .before .before .before .pre in
     let shift = first-shift (args .c) (args .start) (args .t2) (pre .0) (pre .3) (pre .2) in
     c .admit .ensures
     ∙ rw add-one
@@ -46,10 +46,10 @@ returns c =
 
 returns-2 : tie.Need-returns-2
 returns-2 c =
-    let levels = c .before .before .before .before .before .before .before .before .levels in
-    let descend = c .before .before .before .before .before .before .before .descend in
-    let args = c .before .before .before .before .before .before .before .before .before .args in
-    let pre = c .before .before .before .before .before .before .before .before .before .pre in
+    let levels = c .before .before .before .before .before .before .before .before .before .levels in
+    let descend = c .before .before .before .before .before .before .before .before .descend in
+    let args = c .before .before .before .before .before .before .before .before .before .before .args in
+    let pre = c .before .before .before .before .before .before .before .before .before .before .pre in
     let shift = first-shift (args .c) (args .start) (args .t2) (pre .0) (pre .3) (pre .2) in
     rw add-one
     (climbed-dropped (args .c) (levels .result) (args .start) (args .before) (descend .result) (levels .ensures) (descend .ensures .0)
@@ -62,7 +62,7 @@ climb-spec =
     levels-requires
     descend-requires
     add-answer
-    array-read-shift
+    array-copy-out-shift
     array-copy-out-print
     matches-requires
     admit-requires

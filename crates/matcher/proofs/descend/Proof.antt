@@ -32,13 +32,13 @@ ripened c = rw (c .before .before .prefix-length .ensures) at (sym (c .before .i
 -- the comparison is that of the start's block with the beginning above
 judged :
     (c : tie.After-matches Inv-loop μ-loop)
-    → c .matches .result ≡ matches (c .before .before .before .before .before .before .before .before .before .before .before .before .before .before .before .args .c) (c .before .before .before .before .before .before .before .before .before .before .loop .i) (stageAt (c .before .before .before .before .before .before .before .before .before .before .loop .w .stages) (c .before .before .before .before .before .before .before .before .before .before .loop .i - 1) .first)
+    → c .matches .result ≡ matches (c .before .before .before .before .before .before .before .before .before .before .before .before .before .before .before .before .args .c) (c .before .before .before .before .before .before .before .before .before .before .before .loop .i) (stageAt (c .before .before .before .before .before .before .before .before .before .before .before .loop .w .stages) (c .before .before .before .before .before .before .before .before .before .before .before .loop .i - 1) .first)
 judged c =
-    let loop-test = c .before .before .before .before .before .before .before .before .before .loop-test in
-    let pre = c .before .before .before .before .before .before .before .before .before .before .before .before .before .before .before .pre in
-    let args = c .before .before .before .before .before .before .before .before .before .before .before .before .before .before .before .args in
-    let loop = c .before .before .before .before .before .before .before .before .before .before .loop in
-    c .matches .ensures (args .c .signature .key) (turn-shift (args .c) (args .k) (loop .i) _ (loop .w) (loop-test .taken) (loop .inv) (ripened (c .before .before .before .before .before)) (args .t3) (pre .2))
+    let loop-test = c .before .before .before .before .before .before .before .before .before .before .loop-test in
+    let pre = c .before .before .before .before .before .before .before .before .before .before .before .before .before .before .before .before .pre in
+    let args = c .before .before .before .before .before .before .before .before .before .before .before .before .before .before .before .before .args in
+    let loop = c .before .before .before .before .before .before .before .before .before .before .before .loop in
+    c .matches .ensures (args .c .signature .key) (turn-shift (args .c) (args .k) (loop .i) _ (loop .w) (loop-test .taken) (loop .inv) (ripened (c .before .before .before .before .before .before)) (args .t3) (pre .2))
 
 none-requires : tie.Need-none-requires Inv-loop μ-loop
 none-requires c κs = search needs
@@ -100,24 +100,24 @@ mul-shift c =
     let loop = c .before .before .before .before .before .before .before .before .loop in
     omega (arith, loop .inv .most, loop .inv .within)
 
-array-read-shift : tie.Need-array-read-shift Inv-loop μ-loop
-array-read-shift c =
+array-copy-out-shift : tie.Need-array-copy-out-shift Inv-loop μ-loop
+array-copy-out-shift c =
     let loop = c .before .before .before .before .before .before .before .before .loop in
     omega (arith, loop .inv .most, loop .inv .within)
 
 cast-print : tie.Need-cast-print Inv-loop μ-loop
 cast-print c =
-    let loop = c .before .before .before .before .before .before .before .before .loop in
+    let loop = c .before .before .before .before .before .before .before .before .before .loop in
     omega (arith, loop .inv .most, loop .inv .within)
 
 mul-print : tie.Need-mul-print Inv-loop μ-loop
 mul-print c =
-    let loop = c .before .before .before .before .before .before .before .before .loop in
+    let loop = c .before .before .before .before .before .before .before .before .before .loop in
     omega (arith, loop .inv .most, loop .inv .within)
 
 array-copy-out-print : tie.Need-array-copy-out-print Inv-loop μ-loop
 array-copy-out-print c =
-    let loop = c .before .before .before .before .before .before .before .before .loop in
+    let loop = c .before .before .before .before .before .before .before .before .before .loop in
     omega (arith, loop .inv .most, loop .inv .within)
 
 matches-requires : tie.Need-matches-requires Inv-loop μ-loop
@@ -127,32 +127,32 @@ with-ring-requires : tie.Need-with-ring-requires Inv-loop μ-loop
 with-ring-requires c κs = search needs
 
 loop-less : tie.Need-loop-less Inv-loop μ-loop
-loop-less c = omega (arith, c .before .before .before .before .before .before .before .before .before .before .before .before .before .loop-test .taken)
+loop-less c = omega (arith, c .before .before .before .before .before .before .before .before .before .before .before .before .before .before .loop-test .taken)
 
 loop-again : tie.Need-loop-again Inv-loop μ-loop
 loop-again c =
-    let take-off = c .before .before .before .before .before .before .before .take-off in
-    let loop-test = c .before .before .before .before .before .before .before .before .before .before .before .before .before .loop-test in
+    let take-off = c .before .before .before .before .before .before .before .before .take-off in
+    let loop-test = c .before .before .before .before .before .before .before .before .before .before .before .before .before .before .loop-test in
     let if2 = c .before .before .before .if2 in
     let if3 = c .before .before .if3 in
-    let args = c .before .before .before .before .before .before .before .before .before .before .before .before .before .before .before .before .before .before .before .args in
-    let loop = c .before .before .before .before .before .before .before .before .before .before .before .before .before .before .loop in
+    let args = c .before .before .before .before .before .before .before .before .before .before .before .before .before .before .before .before .before .before .before .before .args in
+    let loop = c .before .before .before .before .before .before .before .before .before .before .before .before .before .before .before .loop in
     rw (c .with-ring .ensures, add-one (loop .w .answer .comparisons))
-    (turn-rung (args .c) (args .k) (loop .i) _ (loop .w) (loop-test .taken) (loop .inv) (ripened (c .before .before .before .before .before .before .before .before .before)) (take-off .result) (take-off .ensures) (sym (judged (c .before .before .before .before)) ∙ if2 .taken) (if3 .taken))
+    (turn-rung (args .c) (args .k) (loop .i) _ (loop .w) (loop-test .taken) (loop .inv) (ripened (c .before .before .before .before .before .before .before .before .before .before)) (take-off .result) (take-off .ensures) (sym (judged (c .before .before .before .before)) ∙ if2 .taken) (if3 .taken))
 
 cast-u : tie.Need-cast-u Inv-loop μ-loop
 cast-u c =
-    let loop = c .before .before .before .before .before .before .before .before .before .before .before .before .loop in
+    let loop = c .before .before .before .before .before .before .before .before .before .before .before .before .before .loop in
     omega (arith, loop .inv .most, loop .inv .within)
 
 mul-u : tie.Need-mul-u Inv-loop μ-loop
 mul-u c =
-    let loop = c .before .before .before .before .before .before .before .before .before .before .before .before .loop in
+    let loop = c .before .before .before .before .before .before .before .before .before .before .before .before .before .loop in
     omega (arith, loop .inv .most, loop .inv .within)
 
 element-copy-out-u : tie.Need-element-copy-out-u Inv-loop μ-loop
 element-copy-out-u c =
-    let loop = c .before .before .before .before .before .before .before .before .before .before .before .before .loop in
+    let loop = c .before .before .before .before .before .before .before .before .before .before .before .before .before .loop in
     omega (arith, loop .inv .most, loop .inv .within)
 
 enter-requires : tie.Need-enter-requires Inv-loop μ-loop
@@ -160,17 +160,17 @@ enter-requires c κs = search needs
 
 cast-stage : tie.Need-cast-stage Inv-loop μ-loop
 cast-stage c =
-    let loop = c .before .before .before .before .before .before .before .before .before .before .before .before .before .before .before .loop in
+    let loop = c .before .before .before .before .before .before .before .before .before .before .before .before .before .before .before .before .loop in
     omega (arith, loop .inv .most, loop .inv .within)
 
 mul-stage : tie.Need-mul-stage Inv-loop μ-loop
 mul-stage c =
-    let loop = c .before .before .before .before .before .before .before .before .before .before .before .before .before .before .before .loop in
+    let loop = c .before .before .before .before .before .before .before .before .before .before .before .before .before .before .before .before .loop in
     omega (arith, loop .inv .most, loop .inv .within)
 
 element-set-from-stage : tie.Need-element-set-from-stage Inv-loop μ-loop
 element-set-from-stage c =
-    let loop = c .before .before .before .before .before .before .before .before .before .before .before .before .before .before .before .loop in
+    let loop = c .before .before .before .before .before .before .before .before .before .before .before .before .before .before .before .before .loop in
     omega (arith, loop .inv .most, loop .inv .within)
 
 enum-told : tie.Need-enum-told Inv-loop μ-loop
@@ -178,25 +178,25 @@ enum-told c = search needs
 
 with-requires : tie.Need-with-requires Inv-loop μ-loop
 with-requires c κs =
-    let loop-test = c .before .before .before .before .before .before .before .before .before .before .before .before .before .before .before .before .before .loop-test in
-    let loop = c .before .before .before .before .before .before .before .before .before .before .before .before .before .before .before .before .before .before .loop in
+    let loop-test = c .before .before .before .before .before .before .before .before .before .before .before .before .before .before .before .before .before .before .loop-test in
+    let loop = c .before .before .before .before .before .before .before .before .before .before .before .before .before .before .before .before .before .before .before .loop in
     omega (arith, loop .inv .room, loop .inv .most, loop-test .taken)
 
 loop-less-2 : tie.Need-loop-less-2 Inv-loop μ-loop
 loop-less-2 c =
-    let loop-test = c .before .before .before .before .before .before .before .before .before .before .before .before .before .before .before .before .before .before .loop-test in
+    let loop-test = c .before .before .before .before .before .before .before .before .before .before .before .before .before .before .before .before .before .before .before .loop-test in
     omega (arith, loop-test .taken)
 
 loop-again-2 : tie.Need-loop-again-2 Inv-loop μ-loop
 loop-again-2 c =
     let enter = c .before .before .before .before .before .enter in
-    let take-off = c .before .before .before .before .before .before .before .before .before .before .before .before .take-off in
-    let loop-test = c .before .before .before .before .before .before .before .before .before .before .before .before .before .before .before .before .before .before .loop-test in
+    let take-off = c .before .before .before .before .before .before .before .before .before .before .before .before .before .take-off in
+    let loop-test = c .before .before .before .before .before .before .before .before .before .before .before .before .before .before .before .before .before .before .before .loop-test in
     let if2 = c .before .before .before .before .before .before .before .before .if2 in
     let if3 = c .before .before .before .before .before .before .before .if3 in
-    let args = c .before .before .before .before .before .before .before .before .before .before .before .before .before .before .before .before .before .before .before .before .before .before .before .before .args in
-    let loop = c .before .before .before .before .before .before .before .before .before .before .before .before .before .before .before .before .before .before .before .loop in
-    (turn-entered (args .c) (args .k) (loop .i) _ (loop .w) (loop-test .taken) (loop .inv) (ripened (c .before .before .before .before .before .before .before .before .before .before .before .before .before .before)) (take-off .result) (take-off .ensures) (sym (judged (c .before .before .before .before .before .before .before .before .before)) ∙ if2 .taken) (if3 .left)
+    let args = c .before .before .before .before .before .before .before .before .before .before .before .before .before .before .before .before .before .before .before .before .before .before .before .before .before .args in
+    let loop = c .before .before .before .before .before .before .before .before .before .before .before .before .before .before .before .before .before .before .before .before .loop in
+    (turn-entered (args .c) (args .k) (loop .i) _ (loop .w) (loop-test .taken) (loop .inv) (ripened (c .before .before .before .before .before .before .before .before .before .before .before .before .before .before .before)) (take-off .result) (take-off .ensures) (sym (judged (c .before .before .before .before .before .before .before .before .before)) ∙ if2 .taken) (if3 .left)
     (enter .result) (enter .ensures) _ (rw add-one at (c .with .ensures)))
 
 enum-told-2 : tie.Need-enum-told-2 Inv-loop μ-loop
@@ -204,32 +204,32 @@ enum-told-2 c = search needs
 
 loop-less-3 : tie.Need-loop-less-3 Inv-loop μ-loop
 loop-less-3 c =
-    let loop-test = c .before .before .before .before .before .before .before .before .before .before .before .before .before .before .before .before .loop-test in
+    let loop-test = c .before .before .before .before .before .before .before .before .before .before .before .before .before .before .before .before .before .loop-test in
     omega (arith, loop-test .taken)
 
 loop-again-3 : tie.Need-loop-again-3 Inv-loop μ-loop
 loop-again-3 c =
     let enter = c .before .before .before .enter in
-    let take-off = c .before .before .before .before .before .before .before .before .before .before .take-off in
-    let loop-test = c .before .before .before .before .before .before .before .before .before .before .before .before .before .before .before .before .loop-test in
+    let take-off = c .before .before .before .before .before .before .before .before .before .before .before .take-off in
+    let loop-test = c .before .before .before .before .before .before .before .before .before .before .before .before .before .before .before .before .before .loop-test in
     let if2 = c .before .before .before .before .before .before .if2 in
     let if3 = c .before .before .before .before .before .if3 in
-    let args = c .before .before .before .before .before .before .before .before .before .before .before .before .before .before .before .before .before .before .before .before .before .before .args in
-    let loop = c .before .before .before .before .before .before .before .before .before .before .before .before .before .before .before .before .before .loop in
+    let args = c .before .before .before .before .before .before .before .before .before .before .before .before .before .before .before .before .before .before .before .before .before .before .before .args in
+    let loop = c .before .before .before .before .before .before .before .before .before .before .before .before .before .before .before .before .before .before .loop in
     rw (add-one (loop .w .answer .comparisons))
-    (turn-entered (args .c) (args .k) (loop .i) _ (loop .w) (loop-test .taken) (loop .inv) (ripened (c .before .before .before .before .before .before .before .before .before .before .before .before)) (take-off .result) (take-off .ensures) (sym (judged (c .before .before .before .before .before .before .before)) ∙ if2 .taken) (if3 .left)
+    (turn-entered (args .c) (args .k) (loop .i) _ (loop .w) (loop-test .taken) (loop .inv) (ripened (c .before .before .before .before .before .before .before .before .before .before .before .before .before)) (take-off .result) (take-off .ensures) (sym (judged (c .before .before .before .before .before .before .before)) ∙ if2 .taken) (if3 .left)
     (enter .result) (enter .ensures) _ (rw (c .enum-told2 .given .1)))
 
 loop-less-4 : tie.Need-loop-less-4 Inv-loop μ-loop
-loop-less-4 c = omega (arith, c .before .before .before .before .before .before .before .before .before .before .loop-test .taken)
+loop-less-4 c = omega (arith, c .before .before .before .before .before .before .before .before .before .before .before .loop-test .taken)
 
 loop-again-4 : tie.Need-loop-again-4 Inv-loop μ-loop
 loop-again-4 c =
-    let take-off = c .before .before .before .before .take-off in
-    let loop-test = c .before .before .before .before .before .before .before .before .before .before .loop-test in
-    let args = c .before .before .before .before .before .before .before .before .before .before .before .before .before .before .before .before .args in
-    let loop = c .before .before .before .before .before .before .before .before .before .before .before .loop in
-    rw add-one (turn-dropped (args .c) (args .k) (loop .i) _ (loop .w) (loop-test .taken) (loop .inv) (ripened (c .before .before .before .before .before .before)) (take-off .result) (take-off .ensures) (sym (judged (c .before)) ∙ c .if2 .left))
+    let take-off = c .before .before .before .before .before .take-off in
+    let loop-test = c .before .before .before .before .before .before .before .before .before .before .before .loop-test in
+    let args = c .before .before .before .before .before .before .before .before .before .before .before .before .before .before .before .before .before .args in
+    let loop = c .before .before .before .before .before .before .before .before .before .before .before .before .loop in
+    rw add-one (turn-dropped (args .c) (args .k) (loop .i) _ (loop .w) (loop-test .taken) (loop .inv) (ripened (c .before .before .before .before .before .before .before)) (take-off .result) (take-off .ensures) (sym (judged (c .before)) ∙ c .if2 .left))
 
 loop-less-5 : tie.Need-loop-less-5 Inv-loop μ-loop
 loop-less-5 c = omega (arith, c .before .before .before .before .loop-test .taken)
@@ -269,7 +269,7 @@ descend-spec =
     add-w
     cast-shift
     mul-shift
-    array-read-shift
+    array-copy-out-shift
     cast-print
     mul-print
     array-copy-out-print

@@ -19,7 +19,7 @@ returns c =
     let args = c .before .before .before .args in
     λ key e. c .equals .ensures
     ∙ ap (λ (f : Fingerprint). same f (args .print))
-    (c .before .cut-by .ensures ∙ rest-by key (args .now .print) (args .start .print) (args .now .at - args .start .at) (args .shift) e)
+    (c .before .cut-by .ensures ∙ rw e (rest-by key (args .now .print) (args .start .print) (args .now .at - args .start .at)))
 
 pub matches-spec : {M : Type 1} → statement M
 matches-spec = tie.close (tie.spec cut-by-requires equals-requires returns)

@@ -1,10 +1,9 @@
 -- `matcher::shifts` meets its contract: the loop doubles the exponent.
 use borrow.Author.Needs.{needs}
-use Prim.Native.Nat.{_-_, _≤_}
-use mathlib.Core.Path.{refl}
+use Prim.Native.Nat.{_-_}
+use Rattle.lists.proofs.Laws.{counted-elements}
 use native.Mathlib.Numerals.{add-one}
 use native.Mathlib.Omega.{arith}
-use Rattle.fingerprint.proofs.Modular.{product-at-most}
 use Rattle.ladder.proofs.Levels.{levels-bound}
 use Rattle.matcher.proofs.Doubling.{Doubling, doubling-begin, doubling-step, doubling-end}
 use Rattle.matcher.proofs.shifts.Statement.{statement}
@@ -19,63 +18,61 @@ abbrev μ-loop : tie.MeasureT-loop
 levels-requires : tie.Need-levels-requires Inv-loop μ-loop
 levels-requires c κs = search needs
 
+none-requires : tie.Need-none-requires Inv-loop μ-loop
+none-requires c κs = search needs
+
 power-requires : tie.Need-power-requires Inv-loop μ-loop
 power-requires c κs = search needs
 
 loop-holds : tie.Need-loop-holds Inv-loop μ-loop
 loop-holds c =
-    let args = c .before .before .args in
-    let pre = c .before .before .pre in
-    doubling-begin (args .key) (c .before .levels .result) _ _ (omega (arith, c .before .levels .ensures, levels-bound (args .m) (pre))) refl (c .power .ensures)
+    let args = c .before .before .before .args in
+    let pre = c .before .before .before .pre in
+    let levels = c .before .before .levels in
+    doubling-begin (args .key) (levels .result) _ _ (omega (arith, levels .ensures, levels-bound (args .m) (pre))) (search (counted-elements, needs)) (c .power .ensures)
 
 cast-shifts : tie.Need-cast-shifts Inv-loop μ-loop
-cast-shifts c = omega (arith, c .before .loop .inv .next)
-
-cast-shifts-2 : tie.Need-cast-shifts-2 Inv-loop μ-loop
-cast-shifts-2 c = omega (arith, c .before .loop .inv .most)
+cast-shifts c = omega (arith, c .before .loop .inv .most)
 
 mul-shifts : tie.Need-mul-shifts Inv-loop μ-loop
 mul-shifts c = omega (arith, c .before .loop .inv .most)
 
-array-write-shifts : tie.Need-array-write-shifts Inv-loop μ-loop
-array-write-shifts c = omega (arith, c .before .loop .inv .most, c .before .loop .inv .size, c .loop-test .taken)
+array-set-from-shifts : tie.Need-array-set-from-shifts Inv-loop μ-loop
+array-set-from-shifts c = omega (arith, c .before .loop .inv .most, c .before .loop .inv .size, c .loop-test .taken)
 
-mul-square : tie.Need-mul-square Inv-loop μ-loop
-mul-square c =
-    let small : c .before .loop .square ≤ 2147483646 = omega (arith, c .before .loop .inv .next) in
-    omega (arith, product-at-most {a = c .before .loop .square} {b = c .before .loop .square} 2147483646 2147483646 small small)
+squared-requires : tie.Need-squared-requires Inv-loop μ-loop
+squared-requires c κs = search needs
 
 add-i : tie.Need-add-i Inv-loop μ-loop
-add-i c = omega (arith, c .before .loop .inv .most)
+add-i c = omega (arith, c .before .before .loop .inv .most)
 
 loop-less : tie.Need-loop-less Inv-loop μ-loop
-loop-less c = omega (arith, c .loop-test .taken)
+loop-less c = omega (arith, c .before .loop-test .taken)
 
 loop-again : tie.Need-loop-again Inv-loop μ-loop
 loop-again c =
-    let args = c .before .before .before .before .args in
-    let levels = c .before .before .before .levels in
-    rw add-one (doubling-step (args .key) (levels .result) (c .before .loop .i) (c .before .loop .shifts) (c .before .loop .square) (c .before .loop .inv) (c .loop-test .taken))
+    let args = c .before .before .before .before .before .before .args in
+    let levels = c .before .before .before .before .before .levels in
+    let loop = c .before .before .loop in
+    let step = doubling-step (args .key) (levels .result) (loop .i) (loop .shifts) (loop .square) (loop .inv) in
+    rw (c .squared .ensures, add-one) (step (c .before .loop-test .taken))
 
 power-requires-2 : tie.Need-power-requires-2 Inv-loop μ-loop
 power-requires-2 c κs = search needs
 
-cast-shifts-3 : tie.Need-cast-shifts-3 Inv-loop μ-loop
-cast-shifts-3 c = omega (arith, c .power2 .ensures)
-
-cast-shifts-4 : tie.Need-cast-shifts-4 Inv-loop μ-loop
-cast-shifts-4 c = omega (arith, c .before .before .loop .inv .most)
+cast-shifts-2 : tie.Need-cast-shifts-2 Inv-loop μ-loop
+cast-shifts-2 c = omega (arith, c .before .before .loop .inv .most)
 
 mul-shifts-2 : tie.Need-mul-shifts-2 Inv-loop μ-loop
 mul-shifts-2 c = omega (arith, c .before .before .loop .inv .most)
 
-array-write-shifts-2 : tie.Need-array-write-shifts-2 Inv-loop μ-loop
-array-write-shifts-2 c = omega (arith, c .before .before .loop .inv .most, c .before .before .loop .inv .size)
+array-set-from-shifts-2 : tie.Need-array-set-from-shifts-2 Inv-loop μ-loop
+array-set-from-shifts-2 c = omega (arith, c .before .before .loop .inv .most, c .before .before .loop .inv .size)
 
 returns : tie.Need-returns Inv-loop μ-loop
 returns c =
-    let args = c .before .before .before .before .before .args in
-    let levels = c .before .before .before .before .levels in
+    let args = c .before .before .before .before .before .before .args in
+    let levels = c .before .before .before .before .before .levels in
     let loop = c .before .before .loop in
     doubling-end (args .key) (levels .result) (loop .i) (loop .shifts) (loop .square) (loop .inv) (args .m) (c .power2 .result) (levels .ensures) (omega (arith, c .before .loop-test .left)) (c .power2 .ensures)
 
@@ -86,19 +83,18 @@ shifts-spec =
     Inv-loop
     μ-loop
     levels-requires
+    none-requires
     power-requires
     loop-holds
     cast-shifts
-    cast-shifts-2
     mul-shifts
-    array-write-shifts
-    mul-square
+    array-set-from-shifts
+    squared-requires
     add-i
     loop-less
     loop-again
     power-requires-2
-    cast-shifts-3
-    cast-shifts-4
+    cast-shifts-2
     mul-shifts-2
-    array-write-shifts-2
+    array-set-from-shifts-2
     returns)

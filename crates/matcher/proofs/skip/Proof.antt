@@ -31,16 +31,21 @@ loop-holds c =
 shared-slice-read-byte : tie.Need-shared-slice-read-byte Inv-loop μ-loop
 shared-slice-read-byte c = search needs
 
-cast-if1 : tie.Need-cast-if1 Inv-loop μ-loop
-cast-if1 c = omega (arith, c .shared-slice-known2 .given (c .before .before .loop .at))
+of-byte-requires : tie.Need-of-byte-requires Inv-loop μ-loop
+of-byte-requires c κs = search needs
+
+equals-requires : tie.Need-equals-requires Inv-loop μ-loop
+equals-requires c κs = search needs
 
 returns : tie.Need-returns Inv-loop μ-loop
 returns c =
-    let args = c .before .before .before .before .before .before .before .before .args in
-    let loop = c .before .before .before .before .loop in
-    let reach = c .before .before .before .before .before .reach in
-    let shared-slice-known2 = c .before .before .shared-slice-known2 in
-    sym (skipped-stop (args .key) (args .first) (args .input .now) (loop .mark) (reach .result - loop .at) (loop .at) (omega arith) (omega arith) (shared-slice-known2 .given (loop .at) .fits) (c .if1 .taken)) ∙ loop .inv .3
+    let args = c .before .before .before .before .before .before .before .before .before .args in
+    let loop = c .before .before .before .before .before .loop in
+    let reach = c .before .before .before .before .before .before .reach in
+    let stop = sym (rw (c .before .before .of-byte .ensures) at (c .before .equals .ensures)) ∙ c .if1 .taken in
+    let left = reach .result - loop .at in
+    sym (skipped-stop (args .key) (args .first) (args .input .now) (loop .mark) left (loop .at) (omega arith) (omega arith) stop)
+    ∙ loop .inv .3
 
 next-mark-requires : tie.Need-next-mark-requires Inv-loop μ-loop
 next-mark-requires c κs = search needs
@@ -53,11 +58,20 @@ loop-less c = search needs
 
 loop-again : tie.Need-loop-again Inv-loop μ-loop
 loop-again c =
-    let reach = c .before .before .before .before .before .before .reach in
-    let loop = c .before .before .before .before .before .loop in
-    let args = c .before .before .before .before .before .before .before .before .before .args in
-    let shared-slice-known2 = c .before .before .before .shared-slice-known2 in
-    let less : reach .result - (loop .at + 1) ≡ reach .result - loop .at - 1 = omega arith in (omega arith, loop .inv .1, omega (arith, ap (λ (a : Mark). a .at) (c .next-mark .ensures)), rw (c .next-mark .ensures, less) (sym (skipped-step (args .key) (args .first) (args .input .now) (loop .mark) (reach .result - loop .at) (loop .at) (omega arith) (omega arith) (shared-slice-known2 .given (loop .at) .fits) (c .before .if1 .left)) ∙ loop .inv .3))
+    let args = c .before .before .before .before .before .before .before .before .before .before .args in
+    let loop = c .before .before .before .before .before .before .loop in
+    let reach = c .before .before .before .before .before .before .before .reach in
+    let next-mark = c .next-mark in
+    let on = sym (rw (c .before .before .before .of-byte .ensures) at (c .before .before .equals .ensures)) ∙ c .before .if1 .left in
+    let left = reach .result - loop .at in
+    let less : reach .result - (loop .at + 1) ≡ left - 1 = omega arith in (
+      omega arith,
+      loop .inv .1,
+      omega (arith, ap (λ (a : Mark). a .at) (next-mark .ensures)),
+      rw (next-mark .ensures, less)
+          (sym (skipped-step (args .key) (args .first) (args .input .now) (loop .mark) left (loop .at) (omega arith) (omega arith) on)
+          ∙ loop .inv .3),
+    )
 
 returns-2 : tie.Need-returns-2 Inv-loop μ-loop
 returns-2 c =
@@ -75,7 +89,8 @@ skip-spec =
     reach-requires
     loop-holds
     shared-slice-read-byte
-    cast-if1
+    of-byte-requires
+    equals-requires
     returns
     next-mark-requires
     add-at

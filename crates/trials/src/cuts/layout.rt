@@ -4,8 +4,6 @@ use crate::bytes::plus;
 use crate::bytes::put;
 use crate::bytes::put_number;
 use crate::bytes::short;
-use crate::cards::key_number;
-use crate::cards::print_number;
 use fingerprint::Fingerprint;
 use matcher::Matcher;
 use naive_search::stages;
@@ -29,7 +27,7 @@ fn put_head(buffer: &mut [u8], at: usize, size: usize, kind: u8, signature: Sign
     put(buffer, plus(at, 4), kind);
     put(buffer, plus(at, 5), 0);
     put_number(buffer, plus(at, 6), signature.length);
-    put_number(buffer, plus(at, 10), key_number(signature.key));
+    put_number(buffer, plus(at, 10), signature.key.number());
 }
 
 // The fingerprint of P_i.
@@ -38,13 +36,13 @@ fn number_of(prints: [Fingerprint; 21], i: usize) -> u32 {
         return 0;
     }
     let print = prints[i];
-    print_number(print)
+    print.number()
 }
 
 // A start and its F, or t and F_t.
 fn put_mark(buffer: &mut [u8], at: usize, mark: Mark) {
     put_number(buffer, at, mark.at);
-    put_number(buffer, plus(at, 4), print_number(mark.print));
+    put_number(buffer, plus(at, 4), mark.print.number());
 }
 
 // held, first, F_first, last, F_last, step, step print.
@@ -54,7 +52,7 @@ fn put_stage(buffer: &mut [u8], at: usize, stage: Stage) {
     put_mark(buffer, plus(at, 4), stage.first);
     put_mark(buffer, plus(at, 12), stage.last);
     put_number(buffer, plus(at, 20), step.length);
-    put_number(buffer, plus(at, 24), print_number(step.print));
+    put_number(buffer, plus(at, 24), step.print.number());
 }
 
 // Stage i of the k that a record has, nothing past them.

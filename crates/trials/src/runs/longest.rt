@@ -3,8 +3,6 @@ use crate::bytes::minus;
 use crate::bytes::plus;
 use crate::bytes::short;
 use crate::cards::accepted;
-use crate::cards::key_of;
-use crate::cards::print_number;
 use crate::compare::alike;
 use crate::compare::ring_number;
 use crate::generator::next;
@@ -17,6 +15,7 @@ use crate::tally::add;
 use crate::tally::expect;
 use crate::tally::mix;
 use fingerprint::Fingerprint;
+use fingerprint::Key;
 use matcher::Answer;
 use matcher::Matcher;
 use naive_search::more;
@@ -63,7 +62,7 @@ fn occurs(start: usize, period: usize, altered: usize) -> bool {
 
 // The card, by the maker's calls.
 fn make(period: usize, tally: &mut [u32]) -> Signature {
-    let begun = Builder::begin(short(LONGEST), key_of(KEY));
+    let begun = Builder::begin(short(LONGEST), Key::new(KEY));
     let mut builder = begun.builder;
     let mut i: usize = 0;
     while i < LONGEST {
@@ -82,7 +81,7 @@ fn value_at(prints: [Fingerprint; 21], i: usize) -> u32 {
         return 0;
     }
     let print = prints[i];
-    print_number(print)
+    print.number()
 }
 
 // Whether each of the card's prints is that of its prefix: 1, 2, 4 .. bytes.
