@@ -10,7 +10,7 @@ use lib.ListN.{length}
 use borrow.Author.Tests.{lt-ltb, le-ltb}
 use Rattle.fields.specs.Fields.{Field, widths, size, bytesOf, gathered, pasted, stamped}
 use Rattle.fields.proofs.Gathered.{stamped-stamped}
-use Rattle.record.specs.Owned.{keyNumbers, printNumbers}
+use Rattle.fingerprint.specs.Fingerprint.{keyNumbers, printNumbers}
 use Rattle.ladder.specs.Prefix.{levels}
 use Rattle.signature.specs.declared.Signature.{Signature}
 use Rattle.matcher.specs.declared.Matcher.{Matcher}

@@ -11,14 +11,14 @@ use borrow.Author.Tests.{lt-ltb, le-ltb, eq-eqb}
 use Rattle.fields.specs.Fields.{Field, values, widths, size, bytesOf, valuesAt}
 use Rattle.fields.proofs.Laws.{fields-back}
 use Rattle.fields.proofs.Gathered.{map-gathered, part-gathered}
-use Rattle.record.specs.Owned.{keyNumbers, printNumbers, keyOf, printOf}
-use Rattle.record.proofs.Own.{same-key-self, same-self}
+use Rattle.fingerprint.specs.Fingerprint.{keyNumbers, printNumbers, keyOf, printOf}
+use Rattle.fingerprint.proofs.Laws.{same-self, same-key-self}
 use Rattle.ladder.specs.Prefix.{levels}
 use Rattle.lists.proofs.Laws.{tabulated}
 use Rattle.stage.specs.declared.Stage.{Stage}
 use Rattle.matcher.specs.declared.Matcher.{Matcher}
 use Rattle.stage.specs.Stage.{maxTaken, noStage}
-use Rattle.stage.specs.Stages.{stageCount}
+use Rattle.stage.specs.Stages.{stageCount, stageAt}
 use Rattle.matcher.specs.Matcher.{matcherFits, noMatcher}
 use Rattle.stage.proofs.Fit.{fit-past}
 use Rattle.matcher.proofs.Sound.{sound}
@@ -63,7 +63,7 @@ abbrev k : Matcher → ℕ
 k w = levels (w .signature .length)
 
 abbrev stage : Matcher → ℕ → Stage
-stage w i = getD (w .stages) i noStage
+stage w i = stageAt (w .stages) i
 
 -- The values of the record's fields make the watch.
 module _ (w : Matcher) (fits : matcherFits w ≡ true) (shape : Shaped w) where

@@ -6,21 +6,18 @@ use mathlib.Core.Bool.{true}
 use mathlib.Core.List.{_++_}
 use native.Mathlib.Nat.{mul-le-mul}
 use native.Mathlib.Omega.{arith}
-use lib.Dec.{leb}
 use lib.ListN.{getD}
-use borrow.Author.Tests.{leb-true}
 use Rattle.fields.specs.Fields.{EachFits, gathered}
 use Rattle.fields.proofs.Laws.{fit-append}
 use Rattle.fields.proofs.Gathered.{fit-gathered}
 use Rattle.fingerprint.specs.declared.Key.{Key}
 use Rattle.fingerprint.specs.declared.Fingerprint.{Fingerprint}
-use Rattle.fingerprint.specs.Fingerprint.{p, keyFits, empty}
-use Rattle.record.specs.Owned.{keyNumbers, printNumbers}
+use Rattle.fingerprint.specs.Fingerprint.{Below, keyFits, empty, keyNumbers, printNumbers}
+use Rattle.fingerprint.proofs.Laws.{empty-below, key-numbers-small, print-numbers-small}
 use Rattle.ladder.specs.Prefix.{levels}
 use Rattle.ladder.proofs.Levels.{levels-bound}
-use Rattle.lists.proofs.Laws.{and-left, and-right}
 use Rattle.signature.specs.declared.Signature.{Signature}
-use Rattle.signature.specs.Signature.{lengthFits, signatureFits}
+use Rattle.signature.specs.Signature.{signatureFits}
 use Rattle.signature.proofs.Card.{sound-card}
 use Rattle.stage.specs.declared.Mark.{Mark}
 use Rattle.stage.specs.declared.Stage.{Stage}
@@ -28,8 +25,9 @@ use Rattle.matcher.specs.declared.Matcher.{Matcher}
 use Rattle.stage.specs.Stage.{maxTaken, origin, noGap, noStage}
 use Rattle.matcher.specs.Matcher.{matcherFits}
 use Rattle.stage.specs.Stage.{alone}
+use Rattle.stage.specs.Stages.{stageAt}
 use Rattle.stage.proofs.Fit.{Fit, idle, single, several}
-use Rattle.matcher.proofs.Sound.{sound}
+use Rattle.matcher.proofs.Sound.{sound, card-of}
 use Rattle.record.specs.Layout.{
   recordFields,
   keyFields,
@@ -47,13 +45,13 @@ use Rattle.record.proofs.Sizes.{signature-length, checkpoint-length}
 
 key-fits : (key : Key) → keyFits key ≡ true → EachFits (keyFields key)
 unfolding keyNumbers
-key-fits key e = (omega (arith, leb-true (key .r) 2147483646 (and-right (leb 2 (key .r)) _ e)), tt)
+key-fits key e = (omega (arith, key-numbers-small key e 0), tt)
 
-print-fits : (f : Fingerprint) → f .value < p → EachFits (printFields f)
+print-fits : (f : Fingerprint) → Below f → EachFits (printFields f)
 unfolding printNumbers
-print-fits f l = (omega arith, tt)
+print-fits f l = (omega (arith, print-numbers-small f l 0), tt)
 
-mark-fits : (mark : Mark) → mark .at ≤ maxTaken → mark .print .value < p → EachFits (markFields mark)
+mark-fits : (mark : Mark) → mark .at ≤ maxTaken → Below (mark .print) → EachFits (markFields mark)
 mark-fits mark l h = (omega arith, print-fits (mark .print) h)
 
 stage-each :
@@ -73,12 +71,12 @@ stage-each s held first last step = (
 stage-fits : (m i t : ℕ) (s : Stage) → t ≤ maxTaken → Fit m i t t s → EachFits (stageFields s)
 stage-fits m i t s l (idle e) =
     subst (λ (u : Stage). EachFits (stageFields u)) (sym e)
-    (stage-each noStage (omega arith) (mark-fits origin (omega arith) (omega arith)) (mark-fits origin (omega arith) (omega arith))
-    (omega arith, print-fits empty (omega arith)))
+    (let none = mark-fits origin (omega arith) empty-below in
+    stage-each noStage (omega arith) none none (omega arith, print-fits empty empty-below))
 stage-fits m i t s l (single q) =
     let first = mark-fits (s .first) (omega (arith, q .aged .old)) (q .print) in
     subst (λ (u : Stage). EachFits (stageFields u)) (sym (q .shape))
-    (stage-each (alone (s .first)) (omega arith) first first (omega arith, print-fits empty (omega arith)))
+    (stage-each (alone (s .first)) (omega arith) first first (omega arith, print-fits empty empty-below))
 stage-fits m i t s l (several q) =
     let more : ℕ = q .more in
     let step : ℕ = s .step .length in
@@ -89,10 +87,6 @@ stage-fits m i t s l (several q) =
     let held = q .held in
     stage-each s (omega arith) (mark-fits (s .first) (omega arith) (q .first-print)) (mark-fits (s .last) last (q .last-print))
     (omega arith, print-fits (s .step .print) (q .step-print))
-
-card-key : (s : Signature) → signatureFits s ≡ true → keyFits (s .key) ≡ true
-unfolding signatureFits
-card-key s e = and-right (lengthFits (s .length)) (keyFits (s .key)) (and-left _ _ e)
 
 pub card-fields : (s : Signature) → signatureFits s ≡ true → EachFits (recordFields (signatureBody (levels (s .length)) s))
 unfolding signatureBody
@@ -107,7 +101,7 @@ card-fields s e =
         omega arith,
         (
           omega (arith, q .short),
-          fit-append (keyFields (s .key)) (gathered (printFieldsOf (s .prints)) (k + 1)) (key-fits (s .key) (card-key s e)) prints,
+          fit-append (keyFields (s .key)) (gathered (printFieldsOf (s .prints)) (k + 1)) (key-fits (s .key) (q .key)) prints,
         ),
       ),
     )
@@ -119,9 +113,10 @@ watch-fields w e l =
     let card = w .signature in
     let k : ℕ = levels (card .length) in
     let q = sound w e in
-    let bound = levels-bound (card .length) (q .short) in
-    let key = key-fits (card .key) (card-key card (q .card)) in
-    let last = print-fits (lastPrint card) (sound-card card (q .card) .tested k (omega arith)) in
+    let c = card-of q in
+    let bound = levels-bound (card .length) (c .short) in
+    let key = key-fits (card .key) (c .key) in
+    let last = print-fits (lastPrint card) (c .tested k (omega arith)) in
     let now = mark-fits (w .now) l (q .print) in
     let front =
     fit-append (keyFields (card .key) ++ printFields (lastPrint card)) (markFields (w .now))
@@ -129,13 +124,13 @@ watch-fields w e l =
     in
     let stages : EachFits (gathered (stageFieldsOf (w .stages)) k) =
     fit-gathered (stageFieldsOf (w .stages)) k
-    (λ i j. stage-fits (card .length) i (w .now .at) (getD (w .stages) i noStage) l (q .stage i (omega arith)))
+    (λ i j. stage-fits (card .length) i (w .now .at) (stageAt (w .stages) i) l (q .stage i (omega arith)))
     in (
       omega (arith, checkpoint-length k w),
       (
         omega arith,
         (
-          omega (arith, q .short),
+          omega (arith, c .short),
           fit-append (keyFields (card .key) ++ printFields (lastPrint card) ++ markFields (w .now))
               (gathered (stageFieldsOf (w .stages)) k) front stages,
         ),

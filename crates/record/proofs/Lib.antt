@@ -1,4 +1,3 @@
-mod Own
 pub mod Sizes
 mod Positions
 mod Fits

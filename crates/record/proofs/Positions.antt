@@ -8,8 +8,7 @@ use native.Mathlib.Omega.{arith}
 use lib.Dec.{eqb}
 use Rattle.fields.specs.Fields.{widths, size, numberAt, valuesAt}
 use Rattle.fields.proofs.Gathered.{values-gathered}
-use Rattle.fingerprint.specs.Fingerprint.{empty, same}
-use Rattle.record.specs.Owned.{keyNumbers, printNumbers, keyOf, printOf, noKey, sameKey}
+use Rattle.fingerprint.specs.Fingerprint.{empty, same, keyNumbers, printNumbers, keyOf, printOf, noKey, sameKey}
 use Rattle.signature.specs.declared.Signature.{Signature}
 use Rattle.signature.specs.Signature.{noSignature}
 use Rattle.stage.specs.Stage.{origin, noGap, noStage}

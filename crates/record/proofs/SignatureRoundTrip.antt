@@ -12,8 +12,7 @@ use borrow.Author.Tests.{le-leb, lt-leb, eq-eqb}
 use Rattle.fields.specs.Fields.{Field, values, widths, size, bytesOf, valuesAt}
 use Rattle.fields.proofs.Laws.{fields-back}
 use Rattle.fields.proofs.Gathered.{map-gathered, part-gathered}
-use Rattle.fingerprint.specs.Fingerprint.{empty}
-use Rattle.record.specs.Owned.{keyNumbers, printNumbers, keyOf, printOf}
+use Rattle.fingerprint.specs.Fingerprint.{empty, keyNumbers, printNumbers, keyOf, printOf}
 use Rattle.ladder.specs.Prefix.{levels}
 use Rattle.lists.proofs.Laws.{tabulated}
 use Rattle.signature.specs.declared.Signature.{Signature}

@@ -9,8 +9,7 @@ use lib.ListN.{length}
 use Rattle.fields.specs.Fields.{Field, widths, size, bytesOf, gathered}
 use Rattle.fields.proofs.Laws.{length-bytes}
 use Rattle.fields.proofs.Gathered.{map-gathered, size-gathered}
-use Rattle.fingerprint.specs.Fingerprint.{empty}
-use Rattle.record.specs.Owned.{keyNumbers, printNumbers, noKey}
+use Rattle.fingerprint.specs.Fingerprint.{empty, keyNumbers, printNumbers, noKey}
 use Rattle.ladder.specs.Prefix.{levels, leastFrom}
 use Rattle.ladder.proofs.Levels.{levels-bound}
 use Rattle.signature.specs.declared.Signature.{Signature}
@@ -19,7 +18,7 @@ use Rattle.signature.proofs.Card.{sound-card}
 use Rattle.matcher.specs.declared.Matcher.{Matcher}
 use Rattle.stage.specs.Stage.{noStage, origin}
 use Rattle.matcher.specs.Matcher.{matcherFits, noMatcher}
-use Rattle.matcher.proofs.Sound.{sound}
+use Rattle.matcher.proofs.Sound.{sound, card-of}
 use Rattle.record.specs.Layout.{
   kindWidth,
   wordWidth,
@@ -116,7 +115,7 @@ signature-at-most s h =
 pub checkpoint-at-most : (w : Matcher) → matcherFits w ≡ true → length (checkpointRecord w) ≤ longestCheckpoint
 checkpoint-at-most w h =
     let m : ℕ = w .signature .length in
-    omega (arith, checkpoint-size w, checkpoint-length-is (levels m), levels-bound m (sound w h .short))
+    omega (arith, checkpoint-size w, checkpoint-length-is (levels m), levels-bound m (card-of (sound w h) .short))
 
 -- "A parked record of m = 1 has 26 bytes".
 pub checkpoint-of-one : (w : Matcher) → w .signature .length ≡ 1 → length (checkpointRecord w) ≡ shortestCheckpoint

@@ -7,8 +7,7 @@ use lib.Dec.{leb, ltb, eqb}
 use Rattle.fields.specs.Fields.{Field, widths, size, bytesOf, numberAt, valuesAt, gathered}
 use Rattle.fingerprint.specs.declared.Key.{Key}
 use Rattle.fingerprint.specs.declared.Fingerprint.{Fingerprint}
-use Rattle.fingerprint.specs.Fingerprint.{empty, same}
-use Rattle.record.specs.Owned.{keyNumbers, printNumbers, keyOf, printOf, noKey, sameKey}
+use Rattle.fingerprint.specs.Fingerprint.{empty, same, keyNumbers, printNumbers, keyOf, printOf, noKey, sameKey}
 use Rattle.ladder.specs.Prefix.{levels}
 use Rattle.lists.specs.Lists.{tabulate}
 use Rattle.signature.specs.declared.Signature.{Signature}
@@ -18,7 +17,7 @@ use Rattle.stage.specs.declared.Gap.{Gap}
 use Rattle.stage.specs.declared.Stage.{Stage}
 use Rattle.matcher.specs.declared.Matcher.{Matcher}
 use Rattle.stage.specs.Stage.{origin, noGap, noStage}
-use Rattle.stage.specs.Stages.{stageCount}
+use Rattle.stage.specs.Stages.{Stages, stageCount, stageAt}
 use Rattle.matcher.specs.Matcher.{noMatcher}
 
 -- "Length (4 bytes) of what follows it, kind (2 bytes), then fields of 4 bytes."
@@ -76,8 +75,8 @@ lastPrint s = getD (s .prints) (levels (s .length)) empty
 abbrev pub printFieldsOf : List Fingerprint → ℕ → List Field
 printFieldsOf prints i = printFields (getD prints i empty)
 
-abbrev pub stageFieldsOf : List Stage → ℕ → List Field
-stageFieldsOf stages i = stageFields (getD stages i noStage)
+abbrev pub stageFieldsOf : Stages → ℕ → List Field
+stageFieldsOf stages i = stageFields (stageAt stages i)
 
 -- What follows the length field, for k stages. "Card, kind 1: m, r, the k + 1 fingerprints."
 unfoldable pub signatureBody : ℕ → Signature → List Field

@@ -1,4 +1,3 @@
-pub mod Owned
 pub mod Layout
 pub mod Places
 pub mod Calls

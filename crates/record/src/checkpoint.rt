@@ -50,16 +50,15 @@ use crate::part::put_head;
 use crate::part::put_key;
 use crate::part::put_print;
 use crate::part::put_word;
-use crate::part::same_key;
 use crate::part::word_at;
-use stage::Gap;
-use stage::Mark;
 use matcher::Matcher;
-use stage::Stage;
 use refusal::Refusal;
 use refusal::Verdict;
 use signature::Signature;
 use signature::levels;
+use stage::Gap;
+use stage::Mark;
+use stage::Stage;
 
 // The kind of a checkpoint's record, and the least length field that one can have.
 pub const CHECKPOINT_KIND: u64 = 2;
@@ -295,7 +294,7 @@ fn same_pattern(buf: &[u8], signature: Signature) -> bool
         return false;
     }
     let key = signature.key;
-    if !same_key(key_at(buf, KEY_AT), key) {
+    if !key_at(buf, KEY_AT).equals(key) {
         return false;
     }
     let last = signature.prints[levels(m) as usize];

@@ -4,8 +4,7 @@ ghost use mathlib.Core.List.{[], _∷_};
 ghost use Prim.Native.Nat.{_+_, _≤_};
 ghost use lib.ListN.{length};
 ghost use Rattle.fields.specs.Fields.{widths, numberAt, valuesAt, stamped};
-ghost use Rattle.fingerprint.specs.Fingerprint.{empty};
-ghost use Rattle.record.specs.Owned.{keyOf, printOf, noKey, sameKey};
+ghost use Rattle.fingerprint.specs.Fingerprint.{empty, keyOf, printOf, noKey};
 ghost use Rattle.record.specs.Layout.{
   wordWidth,
   word,
@@ -61,15 +60,13 @@ pub(crate) fn put_key(buf: &mut [u8], at: usize, key: Key)
     requires { ⌜ at + keySize ≤ length (now buf) ⌝ }
     ensures { λ _. ⌜ now (buf .exit) ≡ stamped (now (buf .entry)) at (keyFields key) ⌝ }
 {
-    put_word(buf, at, key.r);
+    put_word(buf, at, key.number());
 }
 
 pub(crate) fn key_at(buf: &[u8], at: usize) -> Key
     ensures { λ key. ⌜ key ≡ keyOf (valuesAt (now (buf .entry)) at (widths (keyFields noKey))) ⌝ }
 {
-    Key {
-        r: word_at(buf, at),
-    }
+    Key::new(word_at(buf, at))
 }
 
 // A fingerprint is one field.
@@ -77,15 +74,13 @@ pub(crate) fn put_print(buf: &mut [u8], at: usize, print: Fingerprint)
     requires { ⌜ at + printSize ≤ length (now buf) ⌝ }
     ensures { λ _. ⌜ now (buf .exit) ≡ stamped (now (buf .entry)) at (printFields print) ⌝ }
 {
-    put_word(buf, at, print.value);
+    put_word(buf, at, print.number());
 }
 
 pub(crate) fn print_at(buf: &[u8], at: usize) -> Fingerprint
     ensures { λ print. ⌜ print ≡ printOf (valuesAt (now (buf .entry)) at (widths (printFields empty))) ⌝ }
 {
-    Fingerprint {
-        value: word_at(buf, at),
-    }
+    Fingerprint::of_number(word_at(buf, at))
 }
 
 // Length and kind, before a record's other fields.
@@ -117,11 +112,4 @@ pub(crate) fn check_head(buf: &[u8], kind: u64, least: u64) -> Verdict
         return Verdict::Refused(Refusal::Misfit);
     }
     Verdict::Accepted
-}
-
-// Whether two keys are equal.
-pub(crate) fn same_key(a: Key, b: Key) -> bool
-    ensures { λ ok. ⌜ ok ≡ sameKey a b ⌝ }
-{
-    a.r == b.r
 }

@@ -1,7 +1,7 @@
 -- `record::place_at` meets its contract.
 use mathlib.Core.Path.{sym, _∙_, ap}
 use borrow.Author.Tests.{le-leb, lt-leb}
-use Rattle.record.specs.Owned.{printOf}
+use Rattle.fingerprint.specs.Fingerprint.{printOf}
 use Rattle.record.specs.Layout.{printFrom}
 use Rattle.record.proofs.Positions.{print-place}
 use borrow.Author.Needs.{needs}

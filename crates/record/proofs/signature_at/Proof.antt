@@ -2,7 +2,7 @@
 use Prim.Native.Nat.{ℕ}
 use mathlib.Core.Path.{_≡_, _∙_, ap}
 use Rattle.fields.specs.Fields.{valuesAt}
-use Rattle.record.specs.Owned.{keyNumbers}
+use Rattle.fingerprint.specs.Fingerprint.{keyNumbers}
 use Rattle.ladder.specs.Prefix.{levels}
 use Rattle.lists.specs.Lists.{tabulate}
 use Rattle.signature.specs.Signature.{places}

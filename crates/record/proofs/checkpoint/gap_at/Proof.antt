@@ -1,6 +1,6 @@
 -- `record::checkpoint::gap_at` meets its contract.
 use Rattle.fields.specs.Fields.{valuesAt}
-use Rattle.record.specs.Owned.{printNumbers}
+use Rattle.fingerprint.specs.Fingerprint.{printNumbers}
 use Rattle.record.specs.Layout.{gapFrom}
 use borrow.Author.Needs.{needs}
 use Rattle.record.proofs.checkpoint.gap_at.Statement.{statement}

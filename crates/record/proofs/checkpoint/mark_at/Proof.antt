@@ -1,6 +1,6 @@
 -- `record::checkpoint::mark_at` meets its contract.
 use Rattle.fields.specs.Fields.{valuesAt}
-use Rattle.record.specs.Owned.{printNumbers}
+use Rattle.fingerprint.specs.Fingerprint.{printNumbers}
 use Rattle.record.specs.Layout.{markFrom}
 use borrow.Author.Needs.{needs}
 use Rattle.record.proofs.checkpoint.mark_at.Statement.{statement}

@@ -4,7 +4,7 @@ use mathlib.Core.Path.{refl, _∙_}
 use mathlib.Core.List.{[], _∷_, _++_}
 use native.Mathlib.Omega.{arith}
 use Rattle.record.specs.Layout.{word, markFields, gapFields}
-use Rattle.record.specs.Owned.{printNumbers}
+use Rattle.fingerprint.specs.Fingerprint.{printNumbers}
 use Rattle.fields.specs.Fields.{size}
 use Rattle.fields.proofs.Gathered.{stamped-stamped}
 use borrow.Author.Needs.{needs}

@@ -4,7 +4,7 @@ use mathlib.Core.Bool.{true, false}
 use borrow.Author.Tests.{ne-eqb, eq-eqb, not-true, not-false}
 use Rattle.fingerprint.specs.declared.Key.{Key}
 use Rattle.fields.specs.Fields.{widths, valuesAt}
-use Rattle.record.specs.Owned.{keyOf, noKey, sameKey}
+use Rattle.fingerprint.specs.Fingerprint.{keyOf, noKey, sameKey}
 use Rattle.record.specs.Layout.{keyFields, patternLength}
 use Rattle.record.specs.Places.{keyPlace}
 use Rattle.record.proofs.Positions.{pattern-tests}
@@ -23,8 +23,8 @@ returns c =
 key-at-requires : tie.Need-key-at-requires
 key-at-requires c κs = search needs
 
-same-key-requires : tie.Need-same-key-requires
-same-key-requires c κs = search needs
+equals-requires : tie.Need-equals-requires
+equals-requires c κs = search needs
 
 returns-2 : tie.Need-returns-2
 returns-2 c =
@@ -32,7 +32,7 @@ returns-2 c =
     let a = e .before .before .before .args in
     let key : sameKey (keyOf (valuesAt (a .buf .now) keyPlace (widths (keyFields noKey)))) (a .t2 .key) ≡ false =
     ap (λ (k : Key). sameKey k (a .t2 .key)) (sym (c .before .before .key-at .ensures))
-    ∙ sym (c .before .same-key .ensures)
+    ∙ sym (c .before .equals .ensures)
     ∙ not-true _ (c .if2 .taken)
     in
     rw (pattern-tests (a .t2) (a .buf .now), eq-eqb (patternLength (a .buf .now)) (a .t2 .length) (sym (e .before .word-at .ensures) ∙ e .if1 .left), key)
@@ -52,8 +52,8 @@ element-copy-out-last c = search needs
 print-at-requires : tie.Need-print-at-requires
 print-at-requires c κs = search needs
 
-equals-requires : tie.Need-equals-requires
-equals-requires c κs = search needs
+equals-requires-2 : tie.Need-equals-requires-2
+equals-requires-2 c κs = search needs
 
 returns-3 : tie.Need-returns-3
 returns-3 c =
@@ -62,11 +62,11 @@ returns-3 c =
     let a = e .before .before .before .args in
     let key : sameKey (keyOf (valuesAt (a .buf .now) keyPlace (widths (keyFields noKey)))) (a .t2 .key) ≡ true =
     ap (λ (k : Key). sameKey k (a .t2 .key)) (sym (k .before .before .key-at .ensures))
-    ∙ sym (k .before .same-key .ensures)
+    ∙ sym (k .before .equals .ensures)
     ∙ not-false _ (k .if2 .left)
     in
     rw (pattern-tests (a .t2) (a .buf .now), eq-eqb (patternLength (a .buf .now)) (a .t2 .length) (sym (e .before .word-at .ensures) ∙ e .if1 .left), key)
-    (c .equals .ensures ∙ rw (c .before .print-at .ensures, c .before .before .before .levels .ensures))
+    (c .equals2 .ensures ∙ rw (c .before .print-at .ensures, c .before .before .before .levels .ensures))
 
 pub same-pattern-spec : {M : Type 1} → statement M
 same-pattern-spec =
@@ -75,12 +75,12 @@ same-pattern-spec =
     word-at-requires
     returns
     key-at-requires
-    same-key-requires
+    equals-requires
     returns-2
     levels-requires
     cast-last
     mul-last
     element-copy-out-last
     print-at-requires
-    equals-requires
+    equals-requires-2
     returns-3)

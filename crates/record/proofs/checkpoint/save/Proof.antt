@@ -6,7 +6,7 @@ use native.Mathlib.Omega.{arith}
 use borrow.Author.Tests.{not-true, not-false}
 use Rattle.ladder.specs.Prefix.{levels}
 use Rattle.ladder.proofs.Levels.{levels-bound}
-use Rattle.matcher.proofs.Sound.{sound}
+use Rattle.matcher.proofs.Sound.{sound, card-of}
 use Rattle.matcher.specs.Matcher.{matcherFits}
 use Rattle.record.specs.Layout.{checkpointLength, checkpointRecord}
 use Rattle.record.proofs.Sizes.{checkpoint-size, checkpoint-length-is}
@@ -46,7 +46,7 @@ put-checkpoint-requires c κs =
     let good : matcherFits (a .matcher) ≡ true = sym (e .before .fits2 .ensures) ∙ not-false _ (e .if1 .left) in
     let m = a .matcher .signature .length in
     let size = c .before .before .checkpoint-size .ensures ∙ ap (λ (k : ℕ). checkpointLength k + 4) (c .before .before .before .levels .ensures) in
-    omega (arith, checkpoint-length-is (levels m), levels-bound m (sound (a .matcher) good .short))
+    omega (arith, checkpoint-length-is (levels m), levels-bound m (card-of (sound (a .matcher) good) .short))
 
 same-length : tie.Need-same-length
 same-length c = search needs
