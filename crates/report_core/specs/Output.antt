@@ -8,6 +8,7 @@ use Rattle.matcher.specs.declared.Matcher.{Matcher}
 use Rattle.matcher.specs.Matcher.{fresh}
 use Rattle.matcher.specs.Stroke.{strokeRefusal, strokeAnswer, afterStroke}
 use Rattle.record.specs.Calls.{readRefusal, readSignature, readTaken}
+use Rattle.record.specs.Places.{longestSignature}
 use Rattle.report_lines.specs.Lines.{lineX, lineE, reportLines}
 
 -- "last `E t total`, total being all comparisons"
@@ -30,7 +31,7 @@ transcript w total (byte ∷ bytes) =
 
 -- "The card is judged on the first 98 bytes, the longest card record, or on all the input if that is less."
 abbrev pub cardBytes : ℕ
-cardBytes = 98
+cardBytes = longestSignature
 
 abbrev pub front : List ℕ → List ℕ
 front input = take cardBytes input

@@ -15,11 +15,14 @@ use refusal::Verdict;
 // The longest pattern.
 pub const MAX_LENGTH: u32 = 1048576;
 
+// Places for fingerprints: P_0 to P_20.
+pub const PLACES: usize = 21;
+
 // A card: the pattern's length m, the key, and the fingerprints of P_0 .. P_k, 0 past them.
 pub struct Signature {
     pub length: u32,
     pub key: Key,
-    pub prints: [Fingerprint; 21],
+    pub prints: [Fingerprint; PLACES],
 }
 
 // A half-made card: how many bytes were taken, their fingerprint, and the fingerprints of the prefixes reached.
@@ -28,7 +31,7 @@ pub struct Builder {
     pub key: Key,
     pub taken: u32,
     pub print: Fingerprint,
-    pub prints: [Fingerprint; 21],
+    pub prints: [Fingerprint; PLACES],
 }
 
 // What beginning or adding a byte hands back: the half-made card, as it was where the call is refused.
@@ -125,7 +128,7 @@ fn place_fits(print: Fingerprint, reached: bool) -> bool
     }
 }
 
-fn prints_fit(prints: [Fingerprint; 21], m: u32, taken: u32) -> bool
+fn prints_fit(prints: [Fingerprint; PLACES], m: u32, taken: u32) -> bool
     ensures { λ ok. ⌜ ok ≡ printsFit m taken prints ⌝ }
 {
     let first = prints[0];
@@ -172,11 +175,11 @@ fn either(test: bool, yes: Fingerprint, no: Fingerprint) -> Fingerprint
 }
 
 // The prints with `print` stored for the prefix of m bytes that byte number n completes.
-fn store(prints: [Fingerprint; 21], m: u32, n: u32, print: Fingerprint) -> [Fingerprint; 21]
+fn store(prints: [Fingerprint; PLACES], m: u32, n: u32, print: Fingerprint) -> [Fingerprint; PLACES]
     ensures { λ after. ⌜ after ≡ stored m n print prints ⌝ }
 {
     let k = levels(m);
-    let mut after = [print; 21];
+    let mut after = [print; PLACES];
     let mut i: u32 = 0;
     while i < 21 {
         let old = prints[i as usize];
@@ -196,7 +199,7 @@ impl Signature {
         Signature {
             length: 0,
             key: Key::none(),
-            prints: [nothing; 21],
+            prints: [nothing; PLACES],
         }
     }
 
@@ -259,7 +262,7 @@ impl Builder {
             key,
             taken: 0,
             print: nothing,
-            prints: [nothing; 21],
+            prints: [nothing; PLACES],
         }
     }
 
