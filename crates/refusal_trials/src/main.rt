@@ -1,5 +1,5 @@
-// Trials of refusals: each number of document 01's table at each of its conditions, with the neighbouring value that is accepted. A line is a case:
-// the value, and the number that each call met, 0 for accepted. Values and buffers are held against what they were before the call.
+// Trials of refusals: each number of document 01's table at each of its conditions, with the neighbouring value that is accepted. A line is
+// a case: the value, and the number that each call met, 0 for accepted. Values and buffers are held against what they were before the call.
 use crate::meeting::FAILURES;
 use crate::meeting::PLACES;
 use crate::meeting::count;

@@ -1,5 +1,5 @@
-// The trials: the compiled library against a search that knows nothing of it (crate `naive`). What is
-// printed are counts of what was tried, and of the checks that failed.
+// The trials: the compiled library against a search that knows nothing of it (crate `naive_search`). What is printed are counts of what was
+// tried, and of the checks that failed.
 mod account; // account.rt: an answer, held against demand 3
 mod bytes; // bytes.rt: bytes at places
 mod cards; // cards.rt: cards made from patterns
