@@ -3,12 +3,12 @@
 use Prim.Native.Nat.{ℕ, zero, suc, _+_, _*_, _≤_, _<_}
 use mathlib.Core.Path.{_≡_, refl, sym, _∙_, ap, subst}
 use mathlib.Core.Logic.{⊎-elim}
-use mathlib.Core.List.{List, [], _∷_, _++_, map, map-append, append-assoc, append-nil}
+use mathlib.Core.List.{List, [], _++_, map, map-append, append-assoc, append-nil}
 use native.Mathlib.Nat.{not-suc-le-zero, eq-or-lt-of-le, le-of-suc-le-suc}
 use native.Mathlib.Numerals.{add-one}
 use native.Mathlib.Omega.{arith}
 use lib.ListN.{length, take, drop, length-append}
-use Rattle.fields.specs.Fields.{Field, widths, size, bytesOf, valuesAt, EachFits, gathered, pasted, stamped}
+use Rattle.fields.specs.Fields.{Field, widths, size, bytesOf, valuesAt, EachFits, gathered, stamped}
 use Rattle.fields.proofs.Laws.{length-bytes, bytes-append, size-append, part-of, values-part, fit-append}
 use Rattle.fields.proofs.Pasted.{pasted-none, pasted-pasted}
 

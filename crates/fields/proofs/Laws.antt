@@ -16,7 +16,8 @@ pub length-bytes : (fields : List Field) → length (bytesOf fields) ≡ size (w
 unfolding bytesOf size
 length-bytes [] = refl
 length-bytes (f ∷ fields) =
-    omega (arith, length-append (littleEndian (f .width) (f .value)) (bytesOf fields), length-number (f .width) (f .value), length-bytes fields)
+    let first : List ℕ = littleEndian (f .width) (f .value) in
+    omega (arith, length-append first (bytesOf fields), length-number (f .width) (f .value), length-bytes fields)
 
 pub bytes-append : (a b : List Field) → bytesOf (a ++ b) ≡ bytesOf a ++ bytesOf b
 unfolding bytesOf

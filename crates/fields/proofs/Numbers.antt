@@ -1,8 +1,8 @@
 -- A number in so many bytes: how many they are, how large it can be, and that it is read back from where it stands.
 -- Assumes nothing.
 use Prim.Native.Nat.{ℕ, zero, suc, _+_, _*_, _/_, _%_, _^_, _-_, _≤_, _<_}
-use mathlib.Core.Path.{_≡_, refl, sym, _∙_, ap}
-use mathlib.Core.List.{List, [], _∷_, _++_, append-assoc}
+use mathlib.Core.Path.{_≡_, refl, _∙_, ap}
+use mathlib.Core.List.{List, [], _∷_, _++_}
 use native.Mathlib.Nat.{add-zero, add-suc, pow-suc, pow-succ', pow-le-pow-right, div-lt-iff-lt-mul}
 use native.Mathlib.Omega.{arith}
 use lib.ListN.{length, getD, length-append}
@@ -45,7 +45,12 @@ number-back front w n rest h =
     rw (le-leb (length front + w) (length (front ++ bytes)) room)
     (rw add-zero at (number-behind front bytes 0 w) ∙ number-first w n rest h)
 
--- A loop that reads from the highest byte down: one byte more, and what bounds the number.
+-- A loop that reads from the highest byte down: there is room for one byte more in 8 bytes; and what one byte more makes.
+pub number-room :
+    (left n number : ℕ) → 0 < left → left ≤ n → n ≤ 8 → number < 256 ^ (n - left) → 256 * number + 255 < 256 ^ 8
+number-room left n number some within l h =
+    omega (arith, pow-le-pow-right {n = 256} (omega arith) {i = n - left} {j = 7} (omega arith))
+
 module _ (s : List ℕ) (at left n number : ℕ) (some : 0 < left) (within : left ≤ n) where
   longer : n - (left - 1) ≡ suc (n - left)
   longer = omega arith
@@ -57,9 +62,6 @@ module _ (s : List ℕ) (at left n number : ℕ) (some : 0 < left) (within : lef
   number-more e =
       let next : suc (at + (left - 1)) ≡ at + left = omega arith in
       rw (longer, next, ← e) (omega arith)
-
-  pub number-room : n ≤ 8 → number < 256 ^ (n - left) → 256 * number + 255 < 18446744073709551616
-  number-room l h = omega (arith, pow-le-pow-right {n = 256} (omega arith) {i = n - left} {j = 7} (omega arith))
 
   pub number-below : (b : ℕ) → b < 256 → number < 256 ^ (n - left) → 256 * number + b < 256 ^ (n - (left - 1))
   number-below b small h = rw (longer, pow-succ') (omega arith)

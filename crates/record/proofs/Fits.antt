@@ -1,6 +1,6 @@
 -- What a card and a watch that are no misfits say of their records: each value can be said in the bytes of its field.
 -- Assumes nothing.
-use Prim.Native.Nat.{ℕ, suc, _+_, _*_, _≤_, _<_}
+use Prim.Native.Nat.{ℕ, suc, _+_, _*_, _≤_}
 use mathlib.Core.Path.{_≡_, sym, subst}
 use mathlib.Core.Bool.{true}
 use mathlib.Core.List.{_++_}
@@ -22,7 +22,7 @@ use Rattle.signature.proofs.Card.{sound-card}
 use Rattle.stage.specs.declared.Mark.{Mark}
 use Rattle.stage.specs.declared.Stage.{Stage}
 use Rattle.matcher.specs.declared.Matcher.{Matcher}
-use Rattle.stage.specs.Stage.{maxTaken, origin, noGap, noStage}
+use Rattle.stage.specs.Stage.{maxTaken, origin, noStage}
 use Rattle.matcher.specs.Matcher.{matcherFits}
 use Rattle.stage.specs.Stage.{alone}
 use Rattle.stage.specs.Stages.{stageAt}
@@ -107,7 +107,10 @@ card-fields s e =
     )
 
 pub watch-fields :
-    (w : Matcher) → matcherFits w ≡ true → w .now .at ≤ maxTaken → EachFits (recordFields (checkpointBody (levels (w .signature .length)) w))
+    (w : Matcher)
+    → matcherFits w ≡ true
+    → w .now .at ≤ maxTaken
+    → EachFits (recordFields (checkpointBody (levels (w .signature .length)) w))
 unfolding checkpointBody
 watch-fields w e l =
     let card = w .signature in

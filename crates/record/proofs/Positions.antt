@@ -28,7 +28,6 @@ use Rattle.record.specs.Layout.{
   markFrom,
   gapFrom,
   stageFrom,
-  signatureBody,
   checkpointBody,
   signatureWidths,
   checkpointWidths,

@@ -1,12 +1,12 @@
 -- How long records are: a card's 14 + 4(k+1) bytes in all, at most 98; a parked watch's 26 + 28k, at most 586, and 26 for one byte.
 -- Assumes nothing.
 use Prim.Native.Nat.{ℕ, _+_, _*_, _≤_}
-use mathlib.Core.Path.{_≡_, refl, sym, _∙_, ap}
+use mathlib.Core.Path.{_≡_, refl, _∙_, ap}
 use mathlib.Core.Bool.{true}
-use mathlib.Core.List.{List, [], _∷_, _++_}
+use mathlib.Core.List.{List, _∷_, _++_}
 use native.Mathlib.Omega.{arith}
 use lib.ListN.{length}
-use Rattle.fields.specs.Fields.{Field, widths, size, bytesOf, gathered}
+use Rattle.fields.specs.Fields.{Field, widths, size, gathered}
 use Rattle.fields.proofs.Laws.{length-bytes}
 use Rattle.fields.proofs.Gathered.{map-gathered, size-gathered}
 use Rattle.fingerprint.specs.Fingerprint.{empty, keyNumbers, printNumbers, noKey}
@@ -53,7 +53,8 @@ abbrev pub stageWidths : ℕ → List ℕ
 stageWidths i = widths (stageFields noStage)
 
 -- The widths are the same for every card and every watch.
-pub signature-widths : (k : ℕ) (s : Signature) → widths (recordFields (signatureBody k s)) ≡ signatureFront ++ gathered printWidths (k + 1)
+pub signature-widths :
+    (k : ℕ) (s : Signature) → widths (recordFields (signatureBody k s)) ≡ signatureFront ++ gathered printWidths (k + 1)
 unfolding signatureBody keyNumbers printNumbers
 signature-widths k s =
     ap (λ (l : List ℕ). signatureFront ++ l) (map-gathered (λ (f : Field). f .width) (printFieldsOf (s .prints)) (k + 1))

@@ -1,7 +1,7 @@
 -- The layout of records: lists of fields, written as their bytes, and read back from the fields' values (document 01, "Records").
 use Prim.Native.Nat.{ℕ, _+_, _*_}
 use mathlib.Core.Bool.{Bool, cond, _&&_}
-use mathlib.Core.List.{List, [], _∷_, _++_, map}
+use mathlib.Core.List.{List, _∷_, _++_, map}
 use lib.ListN.{length, getD, take, drop}
 use lib.Dec.{leb, ltb, eqb}
 use Rattle.fields.specs.Fields.{Field, widths, size, bytesOf, numberAt, valuesAt, gathered}

@@ -1,5 +1,5 @@
 -- `fields::field_at` meets its contract.
-use mathlib.Core.Path.{_≡_, sym, _∙_}
+use mathlib.Core.Path.{sym, _∙_}
 use native.Mathlib.Omega.{arith}
 use borrow.Author.Tests.{leb-true, not-true, not-false}
 use Rattle.fields.specs.Calls.{widthOf}
@@ -17,7 +17,8 @@ reaches-requires c κs = search needs
 returns : tie.Need-returns
 returns c =
     let a = c .before .before .before .before .args in
-    (field-missing (a .buf .now) (a .at) (widthOf (a .width)) (told (a .buf .now) (a .at) (c .before .before .bytes .ensures) (c .before .reaches .ensures) (not-true _ (c .if1 .taken))), some-number (widthOf (a .width)))
+    let fails = told (a .buf .now) (a .at) (c .before .before .bytes .ensures) (c .before .reaches .ensures) (not-true _ (c .if1 .taken)) in
+    (field-missing (a .buf .now) (a .at) (widthOf (a .width)) fails, some-number (widthOf (a .width)))
 
 read-requires : tie.Need-read-requires
 read-requires c κs =

@@ -29,7 +29,7 @@ mul-number : tie.Need-mul-number Inv-loop μ-loop
 mul-number c =
     let l = c .before in
     let a = l .before .args in
-    omega (arith, number-room (a .buf .now) (a .at) (l .loop .left) (a .n) (l .loop .number) (omega arith) (omega arith) (l .before .pre .1) (l .loop .inv .2))
+    omega (arith, number-room (l .loop .left) (a .n) (l .loop .number) (omega arith) (omega arith) (l .before .pre .1) (l .loop .inv .2))
 
 add-number : tie.Need-add-number Inv-loop μ-loop
 add-number c = search needs
@@ -49,7 +49,7 @@ add-number-2 c =
     omega (
       arith,
       c .shared-slice-known .given (a .at + (l .loop .left - 1)),
-      number-room (a .buf .now) (a .at) (l .loop .left) (a .n) (l .loop .number) (omega arith) (omega arith) (l .before .pre .1) (l .loop .inv .2),
+      number-room (l .loop .left) (a .n) (l .loop .number) (omega arith) (omega arith) (l .before .pre .1) (l .loop .inv .2),
     )
 
 loop-less : tie.Need-loop-less Inv-loop μ-loop

@@ -27,7 +27,8 @@ returns-2 : tie.Need-returns-2
 unfolding printFrom
 returns-2 c =
     let a = c .before .before .before .args in
-    rw (le-leb _ _ (c .before .if1 .left)) (c .print-at .ensures ∙ ap printOf (sym (print-place (a .buf .now) (a .k) (a .i) (c .before .if1 .left))))
+    let place = print-place (a .buf .now) (a .k) (a .i) (c .before .if1 .left) in
+    rw (le-leb _ _ (c .before .if1 .left)) (c .print-at .ensures ∙ ap printOf (sym place))
 
 pub place-at-spec : {M : Type 1} → statement M
 place-at-spec =

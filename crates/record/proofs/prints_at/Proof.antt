@@ -7,22 +7,23 @@ use Rattle.fields.specs.Fields.{valuesAt}
 use Rattle.lists.specs.Lists.{tabulate}
 use Rattle.lists.proofs.Laws.{fill-none, fill-more, fill-all}
 use Rattle.record.specs.Layout.{signatureWidths, signaturePlace}
+use Rattle.signature.specs.Signature.{places}
 use borrow.Author.Needs.{needs}
 use Rattle.record.proofs.prints_at.Statement.{statement}
 use Rattle.record.proofs.prints_at.Tie as tie
 
 abbrev Inv-loop : tie.InvT-loop
 Inv-loop buf k prints₀ i₀ prints i =
-    (i ≤ 21) × (length prints ≡ 21) × (take i prints ≡ tabulate (signaturePlace (valuesAt buf 0 (signatureWidths k)) k) i)
+    (i ≤ places) × (length prints ≡ places) × (take i prints ≡ tabulate (signaturePlace (valuesAt buf 0 (signatureWidths k)) k) i)
 
 abbrev μ-loop : tie.MeasureT-loop
-μ-loop buf k prints₀ i₀ prints i = 21 - i
+μ-loop buf k prints₀ i₀ prints i = places - i
 
 empty-requires : tie.Need-empty-requires Inv-loop μ-loop
 empty-requires c κs = search needs
 
 loop-holds : tie.Need-loop-holds Inv-loop μ-loop
-loop-holds c = (omega arith, refl, fill-none _ (replicate 21 (c .empty .result)))
+loop-holds c = (omega arith, refl, fill-none _ (replicate places (c .empty .result)))
 
 place-at-requires : tie.Need-place-at-requires Inv-loop μ-loop
 place-at-requires c κs = search needs
@@ -53,9 +54,10 @@ loop-again c =
 returns : tie.Need-returns Inv-loop μ-loop
 returns c =
     let l = c .before in
-    let end : l .loop .i ≡ 21 = omega arith in
+    let end : l .loop .i ≡ places = omega arith in
     let a = l .before .before .before .args in
-    fill-all (signaturePlace (valuesAt (a .buf .now) 0 (signatureWidths (a .k))) (a .k)) _ 21 (l .loop .inv .1) (rw end at (l .loop .inv .2))
+    let values = valuesAt (a .buf .now) 0 (signatureWidths (a .k)) in
+    fill-all (signaturePlace values (a .k)) _ places (l .loop .inv .1) (rw end at (l .loop .inv .2))
 
 pub prints-at-spec : {M : Type 1} → statement M
 prints-at-spec =

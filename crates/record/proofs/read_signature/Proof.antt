@@ -68,7 +68,9 @@ returns-2 c =
     ∙ ap (λ (k : ℕ). signatureLength k + 4) (k .before .levels .ensures ∙ ap levels (k .before .before .word-at2 .ensures))
     in
     let u = c .unread2 .ensures in
-    let fails : signatureSuits s ≡ false = rw (ne-eqb (lengthField s) _ (λ e. c .before .if1 .taken (ap (λ (n : ℕ). n + 4) (length ∙ e) ∙ sym due))) in
+    let fails : signatureSuits s ≡ false =
+    rw (ne-eqb (lengthField s) _ (λ e. c .before .if1 .taken (ap (λ (n : ℕ). n + 4) (length ∙ e) ∙ sym due)))
+    in
     read-nothing s _ _ _ (rw (u .0) (refusal-given Misfit)) (u .0 ∙ unsuited s head fails) (u .1) (u .2)
 
 signature-at-requires : tie.Need-signature-at-requires

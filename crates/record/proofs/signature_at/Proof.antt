@@ -1,6 +1,6 @@
 -- `record::signature_at` meets its contract.
 use Prim.Native.Nat.{ℕ}
-use mathlib.Core.Path.{_≡_, _∙_, ap}
+use mathlib.Core.Path.{_∙_, ap}
 use Rattle.fields.specs.Fields.{valuesAt}
 use Rattle.fingerprint.specs.Fingerprint.{keyNumbers}
 use Rattle.ladder.specs.Prefix.{levels}

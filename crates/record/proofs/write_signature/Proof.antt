@@ -35,7 +35,8 @@ returns-2 c =
     let e = c .before .before .before in
     let a = e .before .before .before .args in
     let good : signatureFits (a .signature) ≡ true = sym (e .before .fits2 .ensures) ∙ not-false _ (e .if1 .left) in
-    let size = c .before .signature-size .ensures ∙ ap (λ (k : ℕ). signatureLength k + 4) (c .before .before .levels .ensures) in
+    let due = c .before in
+    let size = due .signature-size .ensures ∙ ap (λ (k : ℕ). signatureLength k + 4) (due .before .levels .ensures) in
     put-no-room (signatureFits (a .signature)) (signatureRecord (a .signature)) (a .buf .now) good
     (omega (arith, signature-size (a .signature)))
 
@@ -45,7 +46,8 @@ put-signature-requires c κs =
     let a = e .before .before .before .args in
     let good : signatureFits (a .signature) ≡ true = sym (e .before .fits2 .ensures) ∙ not-false _ (e .if1 .left) in
     let k = levels (a .signature .length) in
-    let size = c .before .before .signature-size .ensures ∙ ap (λ (k : ℕ). signatureLength k + 4) (c .before .before .before .levels .ensures) in
+    let due = c .before .before in
+    let size = due .signature-size .ensures ∙ ap (λ (k : ℕ). signatureLength k + 4) (due .before .levels .ensures) in
     omega (arith, signature-length-is k, levels-bound (a .signature .length) (sound-card (a .signature) good .short))
 
 same-length : tie.Need-same-length
@@ -57,7 +59,8 @@ returns-3 c =
     let a = e .before .before .before .args in
     let good : signatureFits (a .signature) ≡ true = sym (e .before .fits2 .ensures) ∙ not-false _ (e .if1 .left) in
     let whole = signature-size (a .signature) in
-    let size = c .before .before .before .before .before .signature-size .ensures ∙ ap (λ (k : ℕ). signatureLength k + 4) (c .before .before .before .before .before .before .levels .ensures) in
+    let due = c .before .before .before .before .before in
+    let size = due .signature-size .ensures ∙ ap (λ (k : ℕ). signatureLength k + 4) (due .before .levels .ensures) in
     put-whole (signatureFits (a .signature)) (signatureRecord (a .signature)) (a .buf .now) _ _ good (omega arith) (omega arith)
     (c .before .before .put-signature .ensures)
 

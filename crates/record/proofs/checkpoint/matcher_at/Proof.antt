@@ -1,6 +1,6 @@
 -- `record::checkpoint::matcher_at` meets its contract.
 use Prim.Native.Nat.{ℕ}
-use mathlib.Core.Path.{_≡_, sym, _∙_, ap}
+use mathlib.Core.Path.{sym, _∙_, ap}
 use Rattle.fields.specs.Fields.{valuesAt}
 use Rattle.ladder.specs.Prefix.{levels}
 use Rattle.lists.specs.Lists.{tabulate}

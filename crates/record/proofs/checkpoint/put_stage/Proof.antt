@@ -52,7 +52,8 @@ returns c =
       stamped-stamped l (word (s .held) ∷ []) (a .at) (markFields (s .first)) (a .at + 4) refl (omega arith),
       stamped-stamped l (word (s .held) ∷ markFields (s .first)) (a .at) (markFields (s .last)) (a .at + 12) (omega arith) (omega arith),
     )
-    (stamped-stamped l (word (s .held) ∷ markFields (s .first) ++ markFields (s .last)) (a .at) (gapFields (s .step)) (a .at + 20) (omega arith) (omega arith))
+    (stamped-stamped l (word (s .held) ∷ markFields (s .first) ++ markFields (s .last)) (a .at) (gapFields (s .step)) (a .at + 20)
+    (omega arith) (omega arith))
 
 pub put-stage-spec : {M : Type 1} → statement M
 put-stage-spec =

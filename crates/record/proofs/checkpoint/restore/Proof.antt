@@ -110,7 +110,8 @@ returns-4 c =
     let s = a .buf .now in
     let fits : signatureFits card ≡ true = sym (e .before .fits2 .ensures) ∙ not-false _ (e .if1 .left) in
     let head = ap number (sym (told .enum-told .given .1)) ∙ told .before .before .check-head .ensures in
-    let same : samePattern card s ≡ true = sym (k .before .before .before .before .same-pattern .ensures) ∙ not-false _ (k .before .before .before .if2 .left) in
+    let asked = k .before .before .before in
+    let same : samePattern card s ≡ true = sym (asked .before .same-pattern .ensures) ∙ not-false _ (asked .if2 .left) in
     let length = k .before .before .word-at .ensures in
     let due : k .checkpoint-size .result ≡ checkpointLength (levels (card .length)) + 4 =
     k .checkpoint-size .ensures ∙ ap (λ (k : ℕ). checkpointLength k + 4) (k .before .levels .ensures)
@@ -140,7 +141,8 @@ returns-5 c =
     let s = a .buf .now in
     let fits : signatureFits card ≡ true = sym (e .before .fits2 .ensures) ∙ not-false _ (e .if1 .left) in
     let head = ap number (sym (told .enum-told .given .1)) ∙ told .before .before .check-head .ensures in
-    let same : samePattern card s ≡ true = sym (k .before .before .before .before .same-pattern .ensures) ∙ not-false _ (k .before .before .before .if2 .left) in
+    let asked = k .before .before .before in
+    let same : samePattern card s ≡ true = sym (asked .before .same-pattern .ensures) ∙ not-false _ (asked .if2 .left) in
     let length = k .before .before .word-at .ensures in
     let due : k .checkpoint-size .result ≡ checkpointLength (levels (card .length)) + 4 =
     k .checkpoint-size .ensures ∙ ap (λ (k : ℕ). checkpointLength k + 4) (k .before .levels .ensures)
@@ -163,7 +165,8 @@ returns-6 c =
     let s = a .buf .now in
     let fits : signatureFits card ≡ true = sym (e .before .fits2 .ensures) ∙ not-false _ (e .if1 .left) in
     let head = ap number (sym (told .enum-told .given .1)) ∙ told .before .before .check-head .ensures in
-    let same : samePattern card s ≡ true = sym (k .before .before .before .before .same-pattern .ensures) ∙ not-false _ (k .before .before .before .if2 .left) in
+    let asked = k .before .before .before in
+    let same : samePattern card s ≡ true = sym (asked .before .same-pattern .ensures) ∙ not-false _ (asked .if2 .left) in
     let length = k .before .before .word-at .ensures in
     let due : k .checkpoint-size .result ≡ checkpointLength (levels (card .length)) + 4 =
     k .checkpoint-size .ensures ∙ ap (λ (k : ℕ). checkpointLength k + 4) (k .before .levels .ensures)

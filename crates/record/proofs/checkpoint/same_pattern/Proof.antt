@@ -18,7 +18,11 @@ word-at-requires c κs = search needs
 returns : tie.Need-returns
 returns c =
     let a = c .before .before .before .args in
-    rw (pattern-tests (a .t2) (a .buf .now), ne-eqb (patternLength (a .buf .now)) (a .t2 .length) (λ e. c .if1 .taken (c .before .word-at .ensures ∙ e)))
+    let s = a .buf .now in
+    rw (
+      pattern-tests (a .t2) s,
+      ne-eqb (patternLength s) (a .t2 .length) (λ e. c .if1 .taken (c .before .word-at .ensures ∙ e)),
+    )
 
 key-at-requires : tie.Need-key-at-requires
 key-at-requires c κs = search needs
@@ -35,7 +39,8 @@ returns-2 c =
     ∙ sym (c .before .equals .ensures)
     ∙ not-true _ (c .if2 .taken)
     in
-    rw (pattern-tests (a .t2) (a .buf .now), eq-eqb (patternLength (a .buf .now)) (a .t2 .length) (sym (e .before .word-at .ensures) ∙ e .if1 .left), key)
+    let m = eq-eqb (patternLength (a .buf .now)) (a .t2 .length) (sym (e .before .word-at .ensures) ∙ e .if1 .left) in
+    rw (pattern-tests (a .t2) (a .buf .now), m, key)
 
 levels-requires : tie.Need-levels-requires
 levels-requires c κs = search needs
@@ -65,7 +70,8 @@ returns-3 c =
     ∙ sym (k .before .equals .ensures)
     ∙ not-false _ (k .if2 .left)
     in
-    rw (pattern-tests (a .t2) (a .buf .now), eq-eqb (patternLength (a .buf .now)) (a .t2 .length) (sym (e .before .word-at .ensures) ∙ e .if1 .left), key)
+    let m = eq-eqb (patternLength (a .buf .now)) (a .t2 .length) (sym (e .before .word-at .ensures) ∙ e .if1 .left) in
+    rw (pattern-tests (a .t2) (a .buf .now), m, key)
     (c .equals2 .ensures ∙ rw (c .before .print-at .ensures, c .before .before .before .levels .ensures))
 
 pub same-pattern-spec : {M : Type 1} → statement M

@@ -35,7 +35,8 @@ returns-2 c =
     let e = c .before .before .before .before in
     let a = e .before .before .before .args in
     let good : matcherFits (a .matcher) ≡ true = sym (e .before .fits2 .ensures) ∙ not-false _ (e .if1 .left) in
-    let size = c .before .checkpoint-size .ensures ∙ ap (λ (k : ℕ). checkpointLength k + 4) (c .before .before .levels .ensures) in
+    let due = c .before in
+    let size = due .checkpoint-size .ensures ∙ ap (λ (k : ℕ). checkpointLength k + 4) (due .before .levels .ensures) in
     put-no-room (matcherFits (a .matcher)) (checkpointRecord (a .matcher)) (a .buf .now) good
     (omega (arith, checkpoint-size (a .matcher)))
 
@@ -45,7 +46,8 @@ put-checkpoint-requires c κs =
     let a = e .before .before .before .args in
     let good : matcherFits (a .matcher) ≡ true = sym (e .before .fits2 .ensures) ∙ not-false _ (e .if1 .left) in
     let m = a .matcher .signature .length in
-    let size = c .before .before .checkpoint-size .ensures ∙ ap (λ (k : ℕ). checkpointLength k + 4) (c .before .before .before .levels .ensures) in
+    let due = c .before .before in
+    let size = due .checkpoint-size .ensures ∙ ap (λ (k : ℕ). checkpointLength k + 4) (due .before .levels .ensures) in
     omega (arith, checkpoint-length-is (levels m), levels-bound m (card-of (sound (a .matcher) good) .short))
 
 same-length : tie.Need-same-length
@@ -57,7 +59,8 @@ returns-3 c =
     let a = e .before .before .before .args in
     let good : matcherFits (a .matcher) ≡ true = sym (e .before .fits2 .ensures) ∙ not-false _ (e .if1 .left) in
     let whole = checkpoint-size (a .matcher) in
-    let size = c .before .before .before .before .before .checkpoint-size .ensures ∙ ap (λ (k : ℕ). checkpointLength k + 4) (c .before .before .before .before .before .before .levels .ensures) in
+    let due = c .before .before .before .before .before in
+    let size = due .checkpoint-size .ensures ∙ ap (λ (k : ℕ). checkpointLength k + 4) (due .before .levels .ensures) in
     put-whole (matcherFits (a .matcher)) (checkpointRecord (a .matcher)) (a .buf .now) _ _ good (omega arith) (omega arith)
     (c .before .before .put-checkpoint .ensures)
 

@@ -1,4 +1,5 @@
 -- `record::checkpoint::save_behind` meets its contract: what stands behind the used length is lent, and comes back behind the same front.
+use Prim.Native.Nat.{_^_}
 use native.Mathlib.Omega.{arith}
 use Rattle.matcher.specs.Matcher.{matcherFits}
 use Rattle.record.specs.Layout.{checkpointRecord}
@@ -30,7 +31,8 @@ add-t7 c =
     omega (
       arith,
       save .save .ensures .1 .0,
-      behind-within (a .buf .now) (a .used) (from .result) (from .ensures) (matcherFits (a .matcher)) (checkpointRecord (a .matcher)) 18446744073709551616 (omega arith) (omega arith),
+      behind-within (a .buf .now) (a .used) (from .result) (from .ensures) (matcherFits (a .matcher)) (checkpointRecord (a .matcher))
+          (2 ^ 64) (omega arith) (omega arith),
     )
 
 same-length : tie.Need-same-length

@@ -25,7 +25,8 @@ stage-at-requires c κs = search needs
 returns-2 : tie.Need-returns-2
 returns-2 c =
     let a = c .before .before .before .args in
-    rw (lt-ltb _ _ (c .before .if1 .left)) (c .stage-at .ensures ∙ ap stageFrom (sym (stage-place (a .buf .now) (a .k) (a .i) (c .before .if1 .left))))
+    let place = stage-place (a .buf .now) (a .k) (a .i) (c .before .if1 .left) in
+    rw (lt-ltb _ _ (c .before .if1 .left)) (c .stage-at .ensures ∙ ap stageFrom (sym place))
 
 pub stage-place-spec : {M : Type 1} → statement M
 stage-place-spec =

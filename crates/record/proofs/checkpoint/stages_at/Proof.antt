@@ -7,22 +7,23 @@ use Rattle.fields.specs.Fields.{valuesAt}
 use Rattle.lists.specs.Lists.{tabulate}
 use Rattle.lists.proofs.Laws.{fill-none, fill-more, fill-all}
 use Rattle.record.specs.Layout.{checkpointWidths, stagePlace}
+use Rattle.stage.specs.Stages.{stageCount}
 use borrow.Author.Needs.{needs}
 use Rattle.record.proofs.checkpoint.stages_at.Statement.{statement}
 use Rattle.record.proofs.checkpoint.stages_at.Tie as tie
 
 abbrev Inv-loop : tie.InvT-loop
 Inv-loop buf k stages₀ i₀ stages i =
-    (i ≤ 20) × (length stages ≡ 20) × (take i stages ≡ tabulate (stagePlace (valuesAt buf 0 (checkpointWidths k)) k) i)
+    (i ≤ stageCount) × (length stages ≡ stageCount) × (take i stages ≡ tabulate (stagePlace (valuesAt buf 0 (checkpointWidths k)) k) i)
 
 abbrev μ-loop : tie.MeasureT-loop
-μ-loop buf k stages₀ i₀ stages i = 20 - i
+μ-loop buf k stages₀ i₀ stages i = stageCount - i
 
 none-requires : tie.Need-none-requires Inv-loop μ-loop
 none-requires c κs = search needs
 
 loop-holds : tie.Need-loop-holds Inv-loop μ-loop
-loop-holds c = (omega arith, refl, fill-none _ (replicate 20 (c .none .result)))
+loop-holds c = (omega arith, refl, fill-none _ (replicate stageCount (c .none .result)))
 
 stage-place-requires : tie.Need-stage-place-requires Inv-loop μ-loop
 stage-place-requires c κs = search needs
@@ -42,19 +43,21 @@ loop-less c = search needs
 loop-again : tie.Need-loop-again Inv-loop μ-loop
 loop-again c =
     let l = c .before .before in
-    let a = l .before .before .before .args in (
+    let a = l .before .before .before .args in
+    let values = valuesAt (a .buf .now) 0 (checkpointWidths (a .k)) in (
       omega arith,
       length-set (l .loop .stages) (l .loop .i) (c .stage-place .result) ∙ l .loop .inv .1,
       rw (c .stage-place .ensures)
-          (fill-more (stagePlace (valuesAt (a .buf .now) 0 (checkpointWidths (a .k))) (a .k)) (l .loop .stages) (l .loop .i) (omega (arith, l .loop .inv .1)) (l .loop .inv .2)),
+          (fill-more (stagePlace values (a .k)) (l .loop .stages) (l .loop .i) (omega (arith, l .loop .inv .1)) (l .loop .inv .2)),
     )
 
 returns : tie.Need-returns Inv-loop μ-loop
 returns c =
     let l = c .before in
-    let end : l .loop .i ≡ 20 = omega arith in
+    let end : l .loop .i ≡ stageCount = omega arith in
     let a = l .before .before .before .args in
-    fill-all (stagePlace (valuesAt (a .buf .now) 0 (checkpointWidths (a .k))) (a .k)) _ 20 (l .loop .inv .1) (rw end at (l .loop .inv .2))
+    let values = valuesAt (a .buf .now) 0 (checkpointWidths (a .k)) in
+    fill-all (stagePlace values (a .k)) _ stageCount (l .loop .inv .1) (rw end at (l .loop .inv .2))
 
 pub stages-at-spec : {M : Type 1} → statement M
 stages-at-spec =
