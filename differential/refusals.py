@@ -1,5 +1,5 @@
 """Refusals, by the sentences of document 01: what every call says of a value or a
-record; and the cases of refusals that the trial program tries.
+record; and the cases of refusals that the program refusal_trials tries.
 
 A value is a dict from the words of document 01 to numbers: "length", "key" and
 "print 0" to "print 20" of a card; besides them "taken" and "running print" of a

@@ -1,14 +1,14 @@
 #!/usr/bin/env python3
-"""What the trial program must write.
+"""What the trial programs must write.
 
 What is tried is replayed: the generator of patterns and streams, the shapes and
-lengths, the order of calls and the printed lines are written from the program
-(crates/trials). What comes out is worked out without it: answers by the ladder
+lengths, the order of calls and the printed lines are written from the programs
+(crates/trials, crates/refusal_trials). What comes out is worked out without them: answers by the ladder
 with unlimited lists (reference.py), occurrences by a search over the bytes,
 refusals by document 01's conditions (refusals.py).
 
-    trials.py > crates/trials/stdout
-    trials.py runs              one part alone: runs, cuts or refusals
+    trials.py runs cuts > crates/trials/stdout
+    trials.py refusals > crates/refusal_trials/stdout
 """
 
 import copy

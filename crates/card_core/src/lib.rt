@@ -33,7 +33,7 @@ fn field(n: u64) -> u32
 pub fn key_of(n: u64) -> Key
     ensures { λ key. ⌜ key ≡ argumentKey n ⌝ }
 {
-    Key { r: field(n) }
+    Key::new(field(n))
 }
 
 // The length that the builder is told: one more than the longest stands for every length above.

@@ -1,4 +1,4 @@
--- No true match is lost: a start at which P_i stands is listed in stage i at the right age, unless it was set aside; so it comes to be tried.
+-- No true match is lost: a start at which P_i stands is listed in stage i at the right age, unless it was set aside; so it is tried.
 use Prim.Native.Nat.{ℕ, zero, suc, _+_, _≤_, _<_}
 use mathlib.Core.Path.{_≡_, refl, subst}
 use mathlib.Core.Logic.{_⊎_, inl, inr}

@@ -1,5 +1,5 @@
 -- The ladder of document 01 ("Ladder"), with unlimited lists: demand 2 speaks of this one. A stage is the list of its starts.
--- It is written for any tests: how long the pattern is, and the verdicts of the comparisons. A passage's ladder (`testsOf`) is one instance.
+-- It is written for any tests: how long the pattern is, and the verdicts of the comparisons. A passage's ladder (`testsOf`) is one.
 -- The history h holds the bytes taken so far, the present one included, so t is its length.
 use Prim.Native.Nat.{ℕ, zero, suc, _+_, _-_}
 use mathlib.Core.Bool.{Bool, false, cond, _&&_, _||_}

@@ -1,73 +1,101 @@
--- A record that is written part by part, its head first and then its fields, stands whole at the front of the buffer; and what a
--- writer's tests decide.
+-- A record that is written part by part stands whole at the front of the buffer; and what a writer's tests decide.
 -- Assumes nothing.
 use Prim.Native.Nat.{ℕ, _+_, _*_, _≤_, _<_}
-use mathlib.Core.Path.{_≡_, refl, _∙_, ap}
+use mathlib.Core.Path.{_≡_, refl, sym, _∙_, ap}
 use mathlib.Core.Bool.{Bool, true, false}
 use mathlib.Core.List.{List, [], _∷_, _++_}
 use native.Mathlib.Nat.{zero-add}
 use native.Mathlib.Omega.{arith}
 use lib.ListN.{length}
 use borrow.Author.Tests.{lt-ltb, le-ltb}
+use Rattle.fields.specs.Fields.{Field, widths, size, bytesOf, gathered, pasted, stamped}
+use Rattle.fields.proofs.Gathered.{stamped-stamped}
+use Rattle.fingerprint.specs.Fingerprint.{keyNumbers, printNumbers}
 use Rattle.ladder.specs.Prefix.{levels}
 use Rattle.signature.specs.declared.Signature.{Signature}
 use Rattle.matcher.specs.declared.Matcher.{Matcher}
 use Rattle.record.specs.Layout.{
   word,
-  half,
-  words,
-  gathered,
-  recordOf,
+  kindField,
   keyFields,
   printFieldsOf,
-  signatureKind,
-  signatureLength,
-  signatureFields,
-  signatureRecord,
   markFields,
   stageFieldsOf,
+  signatureKind,
   checkpointKind,
-  checkpointLength,
-  checkpointFields,
+  signatureBody,
+  checkpointBody,
+  signatureRecord,
   checkpointRecord,
 }
-use Rattle.record.specs.Field.{pasted, stamped}
+use Rattle.record.specs.Places.{printSize, stageSize, mPlace, keyPlace, printPlace, nowPlace, stagesPlace}
 use Rattle.record.specs.Calls.{putRefusal, putUsed, putBuffer}
-use Rattle.record.proofs.Pasted.{length-pasted, pasted-pasted, stamped-stamped}
-
-module _ (l : List ℕ) (n kind : ℕ) (room : 6 ≤ length l) where
-  length-headed : length (pasted l 0 (word n ++ half kind)) ≡ length l
-  unfolding word half
-  length-headed = length-pasted l (word n ++ half kind) 0 room
-
-  record-put : (fields : List ℕ) → stamped (pasted l 0 (word n ++ half kind)) 6 fields ≡ pasted l 0 (recordOf n kind fields)
-  unfolding word half recordOf
-  record-put fields = pasted-pasted l (word n ++ half kind) 0 (words fields) 6 refl room
+use Rattle.record.proofs.Sizes.{signature-length, checkpoint-length}
 
 pub signature-put :
-    (s : Signature) (k : ℕ) (l b₁ b₂ b₃ b₄ : List ℕ)
+    (s : Signature) (k n : ℕ) (l b₁ b₂ b₃ b₄ : List ℕ)
     → k ≡ levels (s .length)
-    → 14 + 4 * (k + 1) ≤ length l
-    → b₁ ≡ pasted l 0 (word (signatureLength k) ++ half signatureKind)
-    → b₂ ≡ stamped b₁ 6 (s .length ∷ [])
-    → b₃ ≡ stamped b₂ 10 (keyFields (s .key))
-    → b₄ ≡ stamped b₃ 14 (gathered (printFieldsOf (s .prints)) (k + 1))
+    → n + 4 ≡ printPlace + printSize * (k + 1)
+    → printPlace + printSize * (k + 1) ≤ length l
+    → b₁ ≡ stamped l 0 (word n ∷ kindField signatureKind ∷ [])
+    → b₂ ≡ stamped b₁ mPlace (word (s .length) ∷ [])
+    → b₃ ≡ stamped b₂ keyPlace (keyFields (s .key))
+    → b₄ ≡ stamped b₃ printPlace (gathered (printFieldsOf (s .prints)) (k + 1))
     → b₄ ≡ pasted l 0 (signatureRecord s)
-unfolding signatureFields
-signature-put s k l b₁ b₂ b₃ b₄ e room e₁ e₂ e₃ e₄ =
-    let size : length b₁ ≡ length l = ap length e₁ ∙ length-headed l (signatureLength k) signatureKind (omega arith) in
-    let m : List ℕ = s .length ∷ [] in
-    let key : List ℕ = keyFields (s .key) in
+unfolding signatureBody size keyNumbers printNumbers
+signature-put s k n l b₁ b₂ b₃ b₄ e en room e₁ e₂ e₃ e₄ =
+    let same : n ≡ size (widths (signatureBody k s)) = omega (arith, signature-length k s) in
+    let head : List Field = word n ∷ kindField signatureKind ∷ [] in
+    let m : List Field = word (s .length) ∷ [] in
+    let key : List Field = keyFields (s .key) in
     e₄
     ∙ rw (
       e₃,
       e₂,
-      stamped-stamped b₁ m 6 key 10 refl (omega arith),
-      stamped-stamped b₁ (m ++ key) 6 (gathered (printFieldsOf (s .prints)) (k + 1)) 14 refl (omega arith),
       e₁,
+      stamped-stamped l head 0 m mPlace refl (omega arith),
+      stamped-stamped l (head ++ m) 0 key keyPlace refl (omega arith),
+      stamped-stamped l (head ++ m ++ key) 0 (gathered (printFieldsOf (s .prints)) (k + 1)) printPlace refl (omega arith),
       ← e,
     )
-    (record-put l (signatureLength k) signatureKind (omega arith) (m ++ key ++ gathered (printFieldsOf (s .prints)) (k + 1)))
+    (ap (λ (x : ℕ). pasted l 0 (bytesOf (word x ∷ signatureBody k s))) same)
+
+pub checkpoint-put :
+    (w : Matcher) (k n : ℕ) (l b₁ b₂ b₃ b₄ b₅ b₆ : List ℕ)
+    → k ≡ levels (w .signature .length)
+    → n + 4 ≡ stagesPlace + stageSize * k
+    → stagesPlace + stageSize * k ≤ length l
+    → b₁ ≡ stamped l 0 (word n ∷ kindField checkpointKind ∷ [])
+    → b₂ ≡ stamped b₁ mPlace (word (w .signature .length) ∷ [])
+    → b₃ ≡ stamped b₂ keyPlace (keyFields (w .signature .key))
+    → b₄ ≡ stamped b₃ printPlace (printFieldsOf (w .signature .prints) k)
+    → b₅ ≡ stamped b₄ nowPlace (markFields (w .now))
+    → b₆ ≡ stamped b₅ stagesPlace (gathered (stageFieldsOf (w .stages)) k)
+    → b₆ ≡ pasted l 0 (checkpointRecord w)
+unfolding checkpointBody size keyNumbers printNumbers
+checkpoint-put w k n l b₁ b₂ b₃ b₄ b₅ b₆ e en room e₁ e₂ e₃ e₄ e₅ e₆ =
+    let due : ℕ = levels (w .signature .length) in
+    let same : n ≡ size (widths (checkpointBody due w)) = omega (arith, checkpoint-length due w) in
+    let head : List Field = word n ∷ kindField checkpointKind ∷ [] in
+    let m : List Field = word (w .signature .length) ∷ [] in
+    let key : List Field = keyFields (w .signature .key) in
+    let last : List Field = printFieldsOf (w .signature .prints) k in
+    let now : List Field = markFields (w .now) in
+    e₆
+    ∙ rw (
+      e₅,
+      e₄,
+      e₃,
+      e₂,
+      e₁,
+      stamped-stamped l head 0 m mPlace refl (omega arith),
+      stamped-stamped l (head ++ m) 0 key keyPlace refl (omega arith),
+      stamped-stamped l (head ++ m ++ key) 0 last printPlace refl (omega arith),
+      stamped-stamped l (head ++ m ++ key ++ last) 0 now nowPlace refl (omega arith),
+      stamped-stamped l (head ++ m ++ key ++ last ++ now) 0 (gathered (stageFieldsOf (w .stages)) k) stagesPlace refl (omega arith),
+      e,
+    )
+    (ap (λ (x : ℕ). pasted l 0 (bytesOf (word x ∷ checkpointBody due w))) same)
 
 -- What the writers' tests decide: of the verdict's number, the bytes used and the buffer.
 module _ (fits : Bool) (bytes entry : List ℕ) where
@@ -90,36 +118,3 @@ module _ (fits : Bool) (bytes entry : List ℕ) where
       → (0 ≡ putRefusal fits bytes entry) × ((used ≡ putUsed fits bytes entry) × (exit ≡ putBuffer fits bytes entry))
   unfolding pasted
   put-whole used exit e h u x = rw (e, le-ltb (length entry) (length bytes) h) (refl, (u, rw zero-add at x))
-
-pub checkpoint-put :
-    (w : Matcher) (k : ℕ) (l b₁ b₂ b₃ b₄ b₅ b₆ : List ℕ)
-    → k ≡ levels (w .signature .length)
-    → 26 + 28 * k ≤ length l
-    → b₁ ≡ pasted l 0 (word (checkpointLength k) ++ half checkpointKind)
-    → b₂ ≡ stamped b₁ 6 (w .signature .length ∷ [])
-    → b₃ ≡ stamped b₂ 10 (keyFields (w .signature .key))
-    → b₄ ≡ stamped b₃ 14 (printFieldsOf (w .signature .prints) k)
-    → b₅ ≡ stamped b₄ 18 (markFields (w .now))
-    → b₆ ≡ stamped b₅ 26 (gathered (stageFieldsOf (w .stages)) k)
-    → b₆ ≡ pasted l 0 (checkpointRecord w)
-unfolding checkpointFields
-checkpoint-put w k l b₁ b₂ b₃ b₄ b₅ b₆ e room e₁ e₂ e₃ e₄ e₅ e₆ =
-    let size : length b₁ ≡ length l = ap length e₁ ∙ length-headed l (checkpointLength k) checkpointKind (omega arith) in
-    let m : List ℕ = w .signature .length ∷ [] in
-    let key : List ℕ = keyFields (w .signature .key) in
-    let last : List ℕ = printFieldsOf (w .signature .prints) k in
-    let now : List ℕ = markFields (w .now) in
-    e₆
-    ∙ rw (
-      e₅,
-      e₄,
-      e₃,
-      e₂,
-      stamped-stamped b₁ m 6 key 10 refl (omega arith),
-      stamped-stamped b₁ (m ++ key) 6 last 14 refl (omega arith),
-      stamped-stamped b₁ (m ++ key ++ last) 6 now 18 refl (omega arith),
-      stamped-stamped b₁ (m ++ key ++ last ++ now) 6 (gathered (stageFieldsOf (w .stages)) k) 26 refl (omega arith),
-      e₁,
-      ← e,
-    )
-    (record-put l (checkpointLength k) checkpointKind (omega arith) (m ++ key ++ last ++ now ++ gathered (stageFieldsOf (w .stages)) k))

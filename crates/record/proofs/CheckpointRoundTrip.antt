@@ -1,147 +1,145 @@
 -- A watch that is no misfit is resumed from its record under its card, whatever stands behind it: accepted, the watch itself, and the
 -- record's length. Assumes nothing.
-use Prim.Native.Nat.{ℕ, suc, _+_, _*_, _<_}
-use mathlib.Core.Path.{_≡_, refl, sym, _∙_}
-use mathlib.Core.Bool.{true, cond}
-use mathlib.Core.List.{List, _++_}
-use native.Mathlib.Nat.{le-refl}
+use Prim.Native.Nat.{ℕ, _+_, _*_, _≤_, _<_}
+use mathlib.Core.Path.{_≡_, refl, sym, _∙_, ap}
+use mathlib.Core.Bool.{true}
+use mathlib.Core.List.{List, [], _∷_, _++_}
 use native.Mathlib.Decide.{decLt}
 use native.Mathlib.Omega.{arith}
-use lib.Dec.{ltb}
-use lib.ListN.{length, getD}
+use lib.ListN.{length, getD, length-append}
 use borrow.Author.Tests.{lt-ltb, le-ltb, eq-eqb}
+use Rattle.fields.specs.Fields.{Field, values, widths, size, bytesOf, valuesAt}
+use Rattle.fields.proofs.Laws.{fields-back}
+use Rattle.fields.proofs.Gathered.{map-gathered, part-gathered}
+use Rattle.fingerprint.specs.Fingerprint.{keyNumbers, printNumbers, keyOf, printOf}
+use Rattle.fingerprint.proofs.Laws.{same-self, same-key-self}
 use Rattle.ladder.specs.Prefix.{levels}
 use Rattle.lists.proofs.Laws.{tabulated}
 use Rattle.stage.specs.declared.Stage.{Stage}
 use Rattle.matcher.specs.declared.Matcher.{Matcher}
-use Rattle.stage.specs.Stage.{noStage}
-use Rattle.stage.specs.Stages.{stageCount}
-use Rattle.matcher.specs.Matcher.{matcherFits}
-use Rattle.record.specs.Layout.{wordAt, markAt, stageAt, stageFields, stageFieldsOf, lastPrint, checkpointKind, checkpointLength, checkpointFields, checkpointRecord, samePattern, matcherAt}
+use Rattle.stage.specs.Stage.{maxTaken, noStage}
+use Rattle.stage.specs.Stages.{stageCount, stageAt}
+use Rattle.matcher.specs.Matcher.{matcherFits, noMatcher}
+use Rattle.stage.proofs.Fit.{fit-past}
+use Rattle.matcher.proofs.Sound.{sound}
+use Rattle.record.specs.Layout.{
+  recordFields,
+  printFields,
+  markFields,
+  stageFieldsOf,
+  lastPrint,
+  checkpointKind,
+  checkpointBody,
+  checkpointWidths,
+  checkpointLength,
+  checkpointRecord,
+  lengthField,
+  kindOf,
+  keyFrom,
+  printFrom,
+  markFrom,
+  gapFrom,
+  stageFrom,
+  stageFieldCount,
+  stagesPosition,
+  part,
+  parkedValues,
+  samePattern,
+  stagePlace,
+  matcherFrom,
+  matcherAt,
+}
 use Rattle.record.specs.Calls.{restoreRefusal, restoredMatcher, restoreTaken, checkpointLeast}
-use Rattle.record.proofs.Bytes.{wide, read-length, read-field, getD-gathered}
-use Rattle.record.proofs.Fits.{GoodCard, good-card, good-watch, stage-wide, stage-past}
-use Rattle.record.proofs.Sizes.{checkpoint-size, length-checkpoint-fields}
+use Rattle.record.proofs.Fits.{watch-fields}
+use Rattle.record.proofs.Sizes.{checkpoint-widths, checkpoint-same, checkpoint-size, checkpoint-length-is}
 use Rattle.record.proofs.Head.{head-accepted}
 
 -- What the code's types say of a watch: so many stages, and t in 32 bits.
 pub record Shaped (w : Matcher) : Type 0 where
   pub stages : length (w .stages) ≡ stageCount
-  pub now : w .now .at < wide
+  pub now : w .now .at ≤ maxTaken
 
 abbrev k : Matcher → ℕ
 k w = levels (w .signature .length)
 
 abbrev stage : Matcher → ℕ → Stage
-stage w i = getD (w .stages) i noStage
+stage w i = stageAt (w .stages) i
 
-module _ (w : Matcher) (fits : matcherFits w ≡ true) (shape : Shaped w) (tail : List ℕ) where
-  good : GoodCard (w .signature)
-  good = good-card (w .signature) (good-watch w fits .card)
+-- The values of the record's fields make the watch.
+module _ (w : Matcher) (fits : matcherFits w ≡ true) (shape : Shaped w) where
+  fieldValues : List ℕ
+  fieldValues = values (recordFields (checkpointBody (k w) w))
 
-  field :
-      (j at : ℕ)
-      → at ≡ 6 + 4 * j
-      → j < 7 * k w + 5
-      → getD (checkpointFields w) j 0 < wide
-      → wordAt (checkpointRecord w ++ tail) at ≡ getD (checkpointFields w) j 0
-  field j at e l h =
-      read-field (checkpointLength (k w)) checkpointKind (checkpointFields w) tail j at e
-      (omega (arith, length-checkpoint-fields w)) h
+  stage-made :
+      (i : ℕ) → i < k w → stageFrom (part (stagesPosition + i * stageFieldCount) stageFieldCount fieldValues) ≡ stage w i
+  unfolding fieldValues stageFrom markFrom gapFrom checkpointBody keyNumbers printNumbers printOf
+  stage-made i l =
+      let card = w .signature in
+      let front : List ℕ =
+      size (widths (checkpointBody (k w) w)) ∷ checkpointKind ∷ card .length
+      ∷ keyNumbers (card .key) ++ values (printFields (lastPrint card) ++ markFields (w .now))
+      in
+      ap stageFrom
+      (ap (λ (l : List ℕ). part (stagesPosition + i * stageFieldCount) stageFieldCount (front ++ l))
+      (map-gathered (λ (f : Field). f .value) (stageFieldsOf (w .stages)) (k w))
+      ∙ part-gathered (λ i. values (stageFieldsOf (w .stages) i)) stageFieldCount (λ i. refl) front (k w) i _ l refl)
 
-  parked-m : wordAt (checkpointRecord w ++ tail) 6 ≡ w .signature .length
-  unfolding checkpointFields
-  parked-m = field 0 6 refl (omega arith) (omega (arith, good .high))
-
-  parked-key : wordAt (checkpointRecord w ++ tail) 10 ≡ w .signature .key .r
-  unfolding checkpointFields
-  parked-key = field 1 10 refl (omega arith) (good .key)
-
-  parked-last : wordAt (checkpointRecord w ++ tail) 14 ≡ lastPrint (w .signature) .value
-  unfolding checkpointFields
-  parked-last = field 2 14 refl (omega arith) (good .print (k w) (le-refl (k w)))
-
-  parked-now : markAt (checkpointRecord w ++ tail) 18 ≡ w .now
-  unfolding checkpointFields
-  parked-now =
-      λ q.
-      record {
-        at = field 3 18 refl (omega arith) (shape .now) q;
-        print = record { value = field 4 22 refl (omega arith) (good-watch w fits .print) q };
-      }
-
-  -- field j of stage i
-  stage-field :
-      (i j at : ℕ)
-      → i < k w
-      → j < 7
-      → at ≡ 26 + 28 * i + 4 * j
-      → getD (stageFields (stage w i)) j 0 < wide
-      → wordAt (checkpointRecord w ++ tail) at ≡ getD (stageFields (stage w i)) j 0
-  unfolding checkpointFields
-  stage-field i j at l m e h =
-      let same = getD-gathered (stageFieldsOf (w .stages)) 7 (λ i. refl) (k w) i j l m in
-      field (suc (suc (suc (suc (suc (i * 7 + j)))))) at (omega arith) (omega arith) (rw same h) ∙ same
-
-  parked-stage : (i : ℕ) → i < k w → stageAt (checkpointRecord w ++ tail) (26 + 28 * i) ≡ stage w i
-  parked-stage i l =
-      let at : ℕ = 26 + 28 * i in
-      let fit = good-watch w fits .stage i (omega (arith, good .stages)) in
-      let in-4-bytes = stage-wide (w .signature .length) i (w .now .at) (stage w i) (good .low) (shape .now) fit in
-      λ q.
-      record {
-        held = stage-field i 0 at l (omega arith) (omega arith) (in-4-bytes .held) q;
-        first = record {
-          at = stage-field i 1 (at + 4) l (omega arith) (omega arith) (in-4-bytes .first) q;
-          print = record { value = stage-field i 2 (at + 4 + 4) l (omega arith) (omega arith) (in-4-bytes .first-print) q };
-        };
-        last = record {
-          at = stage-field i 3 (at + 12) l (omega arith) (omega arith) (in-4-bytes .last) q;
-          print = record { value = stage-field i 4 (at + 12 + 4) l (omega arith) (omega arith) (in-4-bytes .last-print) q };
-        };
-        step = record {
-          length = stage-field i 5 (at + 20) l (omega arith) (omega arith) (in-4-bytes .step) q;
-          print = record { value = stage-field i 6 (at + 20 + 4) l (omega arith) (omega arith) (in-4-bytes .step-print) q };
-        };
-      }
-
-  parked-place :
-      (i : ℕ) → i < stageCount → stage w i ≡ cond (ltb i (k w)) (stageAt (checkpointRecord w ++ tail) (26 + 28 * i)) noStage
-  parked-place i l =
+  place-made : (i : ℕ) → i < stageCount → stage w i ≡ stagePlace fieldValues (k w) i
+  place-made i l =
       elim (decLt i (k w)) [
-        | yes h ↦ rw (lt-ltb i (k w) h) (sym (parked-stage i h))
+        | yes h ↦ rw (lt-ltb i (k w) h) (sym (stage-made i h))
         | no h ↦
             rw (le-ltb i (k w) (omega arith))
-            (stage-past (w .signature .length) i (w .now .at) (stage w i) (omega arith) (good-watch w fits .stage i l))
+            (fit-past (w .signature .length) i (w .now .at) (w .now .at) (stage w i) (omega arith) (sound w fits .stage i l))
       ]
 
-  matcher-back : matcherAt (w .signature) (checkpointRecord w ++ tail) ≡ w
-  unfolding matcherAt
-  matcher-back =
+  watch-made : matcherFrom (w .signature) fieldValues ≡ w
+  unfolding fieldValues markFrom checkpointBody keyNumbers printNumbers printOf
+  watch-made =
       λ q.
       record {
         signature = w .signature;
-        now = parked-now q;
-        stages = sym (tabulated _ stageCount noStage (w .stages) (shape .stages) parked-place) q;
+        now = w .now;
+        stages = sym (tabulated _ stageCount noStage (w .stages) (shape .stages) place-made) q;
       }
 
-  length-back : wordAt (checkpointRecord w ++ tail) 0 ≡ checkpointLength (k w)
-  length-back = read-length (checkpointLength (k w)) checkpointKind (checkpointFields w) tail (omega (arith, good .stages))
+module _ (w : Matcher) (fits : matcherFits w ≡ true) (shape : Shaped w) (tail : List ℕ) where
+  values-back : parkedValues (w .signature) (checkpointRecord w ++ tail) ≡ fieldValues w fits shape
+  unfolding fieldValues checkpointWidths
+  values-back =
+      ap (λ (ws : List ℕ). valuesAt (checkpointRecord w ++ tail) 0 ws) (checkpoint-widths (k w) noMatcher ∙ sym (checkpoint-widths (k w) w))
+      ∙ fields-back [] (recordFields (checkpointBody (k w) w)) tail (watch-fields w fits (shape .now))
+
+  head-back :
+      (lengthField (checkpointRecord w ++ tail) ≡ size (widths (checkpointBody (k w) w)))
+      × (kindOf (checkpointRecord w ++ tail) ≡ checkpointKind)
+  unfolding valuesAt checkpointWidths checkpointBody fieldValues
+  head-back = (ap (λ (l : List ℕ). getD l 0 0) values-back, ap (λ (l : List ℕ). getD l 1 0) values-back)
+
+  length-back : lengthField (checkpointRecord w ++ tail) ≡ checkpointLength (k w)
+  length-back = head-back .0 ∙ checkpoint-same (k w) w
+
+  matcher-back : matcherAt (w .signature) (checkpointRecord w ++ tail) ≡ w
+  unfolding matcherAt
+  matcher-back = ap (matcherFrom (w .signature)) values-back ∙ watch-made w fits shape
 
   same-pattern : samePattern (w .signature) (checkpointRecord w ++ tail) ≡ true
-  unfolding samePattern
+  unfolding samePattern fieldValues keyFrom printFrom checkpointBody keyNumbers printNumbers keyOf printOf
   same-pattern =
-      rw (eq-eqb _ _ parked-m, eq-eqb _ _ parked-key, eq-eqb _ _ parked-last)
+      let card = w .signature in
+      rw (values-back, eq-eqb (card .length) (card .length) refl, same-key-self (card .key), same-self (lastPrint card))
 
   pub restore-accepted : restoreRefusal (w .signature) (checkpointRecord w ++ tail) ≡ 0
   unfolding restoreRefusal
   restore-accepted =
+      let bytes : List ℕ = checkpointRecord w ++ tail in
       let n : ℕ = checkpointLength (k w) in
-      let size = length-checkpoint-fields w in
-      let stages = good .stages in
+      let size = length-append (checkpointRecord w) tail in
+      let long = checkpoint-length-is (k w) in
       rw (
-        good-watch w fits .card,
-        head-accepted checkpointKind (checkpointFields w) tail (omega arith) (omega arith) n checkpointLeast (omega arith) (omega arith),
+        sound w fits .card,
+        head-accepted checkpointKind n checkpointLeast bytes (head-back .1) length-back (omega (arith, checkpoint-size w)) (omega arith)
+            (omega arith),
         same-pattern,
         length-back,
         eq-eqb n n refl,

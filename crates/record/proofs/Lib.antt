@@ -1,9 +1,7 @@
-pub mod Bytes
-pub mod Fits
 pub mod Sizes
+mod Positions
+mod Fits
 pub mod Head
-mod Fields
-mod Pasted
 mod Assembled
 mod Reading
 mod Restoring

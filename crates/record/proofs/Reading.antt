@@ -23,7 +23,7 @@ use Rattle.refusal.specs.declared.Refusal.the-variants.{
 use Rattle.refusal.specs.Number.{refusalNumber}
 use Rattle.signature.specs.declared.Signature.{Signature}
 use Rattle.signature.specs.Signature.{noSignature}
-use Rattle.record.specs.Layout.{lengthField, signatureKind, signatureAt}
+use Rattle.record.specs.Layout.{lengthWidth, lengthField, signatureKind, signatureAt}
 use Rattle.record.specs.Calls.{
   headRefusal,
   signatureLeast,
@@ -72,7 +72,7 @@ module _ (s : List ℕ) where
       → 0 ≡ headRefusal signatureKind signatureLeast s
       → signatureSuits s ≡ true
       → card ≡ signatureAt s
-      → taken ≡ lengthField s + 4
+      → taken ≡ lengthField s + lengthWidth
       → (0 ≡ readRefusal s) × ((card ≡ readSignature s) × (taken ≡ readTaken s))
   unfolding readRefusal readSignature readTaken
   read-whole taken card e h ec et = rw (← e, h) (refl, (ec, et))

@@ -9,7 +9,7 @@ use Rattle.signature.specs.declared.Signature.{Signature}
 use Rattle.signature.specs.Signature.{signatureFits}
 use Rattle.matcher.specs.declared.Matcher.{Matcher}
 use Rattle.matcher.specs.Matcher.{noMatcher}
-use Rattle.record.specs.Layout.{lengthField, checkpointKind, samePattern, matcherAt}
+use Rattle.record.specs.Layout.{lengthWidth, lengthField, checkpointKind, samePattern, matcherAt}
 use Rattle.record.specs.Calls.{
   headRefusal,
   checkpointLeast,
@@ -54,7 +54,7 @@ module _ (card : Signature) (s : List ℕ) where
           → samePattern card s ≡ true
           → checkpointSuits card s ≡ true
           → w ≡ matcherAt card s
-          → taken ≡ lengthField s + 4
+          → taken ≡ lengthField s + lengthWidth
           → (0 ≡ restoreRefusal card s) × ((w ≡ restoredMatcher card s) × (taken ≡ restoreTaken card s))
       unfolding restoreRefusal restoredMatcher restoreTaken
       restore-whole taken w e h ew et = rw (fits, ← head, e, h) (refl, (ew, et))

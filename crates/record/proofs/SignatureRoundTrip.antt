@@ -1,109 +1,122 @@
 -- A card that is no misfit is read back from its record, whatever stands behind it: accepted, the card itself, and the record's length.
 -- Assumes nothing.
-use Prim.Native.Nat.{ℕ, suc, _+_, _*_, _≤_, _<_}
+use Prim.Native.Nat.{ℕ, _+_, _*_, _≤_, _<_}
 use mathlib.Core.Path.{_≡_, refl, sym, _∙_, ap}
-use mathlib.Core.Bool.{true, cond}
-use mathlib.Core.List.{List, _++_}
+use mathlib.Core.Bool.{true}
+use mathlib.Core.List.{List, [], _∷_, _++_}
 use native.Mathlib.Nat.{lt-of-not-le}
 use native.Mathlib.Decide.{decLe}
 use native.Mathlib.Omega.{arith}
-use lib.Dec.{leb}
-use lib.ListN.{length, getD}
+use lib.ListN.{length, getD, length-append}
 use borrow.Author.Tests.{le-leb, lt-leb, eq-eqb}
-use Rattle.fingerprint.specs.Fingerprint.{empty}
-use Rattle.fingerprint.proofs.Laws.{by-value}
+use Rattle.fields.specs.Fields.{Field, values, widths, size, bytesOf, valuesAt}
+use Rattle.fields.proofs.Laws.{fields-back}
+use Rattle.fields.proofs.Gathered.{map-gathered, part-gathered}
+use Rattle.fingerprint.specs.Fingerprint.{empty, keyNumbers, printNumbers, keyOf, printOf}
 use Rattle.ladder.specs.Prefix.{levels}
 use Rattle.lists.proofs.Laws.{tabulated}
 use Rattle.signature.specs.declared.Signature.{Signature}
-use Rattle.signature.specs.Signature.{places, signatureFits}
+use Rattle.signature.specs.Signature.{places, noSignature, signatureFits}
+use Rattle.signature.proofs.Card.{sound-card}
 use Rattle.record.specs.Layout.{
-  wordAt,
-  gathered,
+  recordFields,
   printFieldsOf,
-  printAt,
   signatureKind,
+  signatureBody,
+  signatureWidths,
   signatureLength,
-  signatureFields,
   signatureRecord,
+  lengthField,
+  kindOf,
+  patternLength,
+  keyFrom,
+  printCount,
+  printPosition,
+  part,
+  printFrom,
+  signaturePlace,
+  signatureFrom,
   signatureAt,
 }
 use Rattle.record.specs.Calls.{readRefusal, readSignature, readTaken, signatureLeast}
-use Rattle.record.proofs.Bytes.{wide, read-length, read-field, getD-gathered}
-use Rattle.record.proofs.Fits.{GoodCard, good-card}
-use Rattle.record.proofs.Sizes.{signature-size, length-signature-fields}
+use Rattle.record.proofs.Fits.{card-fields}
+use Rattle.record.proofs.Sizes.{signature-widths, signature-same, signature-size, signature-length-is}
 use Rattle.record.proofs.Head.{head-accepted}
 
-print-field :
-    (s : Signature) (i : ℕ) → i ≤ levels (s .length) → getD (signatureFields s) (suc (suc i)) 0 ≡ getD (s .prints) i empty .value
-unfolding signatureFields
-print-field s i l =
-    ap (λ (n : ℕ). getD (gathered (printFieldsOf (s .prints)) (levels (s .length) + 1)) n 0) (omega arith)
-    ∙ getD-gathered (printFieldsOf (s .prints)) 1 (λ i. refl) (levels (s .length) + 1) i 0 (omega arith)
-    (omega arith)
+-- The values of the record's fields make the card.
+module _ (s : Signature) (fits : signatureFits s ≡ true) (sized : length (s .prints) ≡ places) where
+  fieldValues : List ℕ
+  fieldValues = values (recordFields (signatureBody (levels (s .length)) s))
+
+  print-made : (i : ℕ) → i ≤ levels (s .length) → printFrom fieldValues i ≡ getD (s .prints) i empty
+  unfolding fieldValues printFrom signatureBody keyNumbers printNumbers printOf
+  print-made i l =
+      let k : ℕ = levels (s .length) in
+      let front : List ℕ = size (widths (signatureBody k s)) ∷ signatureKind ∷ s .length ∷ keyNumbers (s .key) in
+      ap printOf
+      (ap (λ (l : List ℕ). part (printPosition + i * printCount) printCount (front ++ l))
+      (map-gathered (λ (f : Field). f .value) (printFieldsOf (s .prints)) (k + 1))
+      ∙ part-gathered (λ i. values (printFieldsOf (s .prints) i)) printCount (λ i. refl) front (k + 1) i _ (omega arith) refl)
+
+  place-made : (i : ℕ) → i < places → getD (s .prints) i empty ≡ signaturePlace fieldValues (levels (s .length)) i
+  place-made i l =
+      elim (decLe i (levels (s .length))) [
+        | yes h ↦ rw (le-leb i (levels (s .length)) h) (sym (print-made i h))
+        | no h ↦ rw (lt-leb i (levels (s .length)) (lt-of-not-le h)) (sound-card s fits .past i l (lt-of-not-le h))
+      ]
+
+  card-made : signatureFrom (levels (s .length)) fieldValues ≡ s
+  unfolding fieldValues keyFrom signatureBody keyNumbers keyOf
+  card-made =
+      λ q.
+      record {
+        length = s .length;
+        key = s .key;
+        prints = sym (tabulated _ places empty (s .prints) sized place-made) q;
+      }
 
 module _ (s : Signature) (fits : signatureFits s ≡ true) (sized : length (s .prints) ≡ places) (tail : List ℕ) where
-  good : GoodCard s
-  good = good-card s fits
+  values-back : valuesAt (signatureRecord s ++ tail) 0 (signatureWidths (levels (s .length))) ≡ fieldValues s fits sized
+  unfolding fieldValues signatureWidths
+  values-back =
+      let k : ℕ = levels (s .length) in
+      ap (λ (ws : List ℕ). valuesAt (signatureRecord s ++ tail) 0 ws) (signature-widths k noSignature ∙ sym (signature-widths k s))
+      ∙ fields-back [] (recordFields (signatureBody k s)) tail (card-fields s fits)
 
-  field :
-      (j at : ℕ)
-      → at ≡ 6 + 4 * j
-      → j < levels (s .length) + 3
-      → getD (signatureFields s) j 0 < wide
-      → wordAt (signatureRecord s ++ tail) at ≡ getD (signatureFields s) j 0
-  field j at e l h =
-      read-field (signatureLength (levels (s .length))) signatureKind (signatureFields s) tail j at e
-      (omega (arith, length-signature-fields s)) h
-
-  read-m : wordAt (signatureRecord s ++ tail) 6 ≡ s .length
-  unfolding signatureFields
-  read-m = field 0 6 refl (omega arith) (omega (arith, good .high))
-
-  read-key : wordAt (signatureRecord s ++ tail) 10 ≡ s .key .r
-  unfolding signatureFields
-  read-key = field 1 10 refl (omega arith) (good .key)
-
-  read-print : (i : ℕ) → i ≤ levels (s .length) → printAt (signatureRecord s ++ tail) (14 + 4 * i) ≡ getD (s .prints) i empty
-  read-print i l =
-      let e = print-field s i l in
-      by-value _ _ (field (suc (suc i)) (14 + 4 * i) (omega arith) (omega arith) (rw e (good .print i l)) ∙ e)
-
-  read-place :
-      (i : ℕ)
-      → i < places
-      → getD (s .prints) i empty
-      ≡ cond (leb i (levels (wordAt (signatureRecord s ++ tail) 6))) (printAt (signatureRecord s ++ tail) (14 + 4 * i)) empty
-  read-place i l =
-      rw read-m
-      (elim (decLe i (levels (s .length))) [
-        | yes h ↦ rw (le-leb i (levels (s .length)) h) (sym (read-print i h))
-        | no h ↦ rw (lt-leb i (levels (s .length)) (lt-of-not-le h)) (good .past i (lt-of-not-le h) l)
-      ])
+  head-back :
+      (lengthField (signatureRecord s ++ tail) ≡ size (widths (signatureBody (levels (s .length)) s)))
+      × (kindOf (signatureRecord s ++ tail) ≡ signatureKind)
+      × (patternLength (signatureRecord s ++ tail) ≡ s .length)
+  unfolding valuesAt signatureWidths signatureBody keyNumbers fieldValues
+  head-back = (
+    ap (λ (l : List ℕ). getD l 0 0) values-back,
+    ap (λ (l : List ℕ). getD l 1 0) values-back,
+    ap (λ (l : List ℕ). getD l 2 0) values-back,
+  )
 
   signature-back : signatureAt (signatureRecord s ++ tail) ≡ s
   unfolding signatureAt
   signature-back =
-      λ q.
-      record {
-        length = read-m q;
-        key = record { r = read-key q };
-        prints = sym (tabulated _ places empty (s .prints) sized read-place) q;
-      }
+      let bytes : List ℕ = signatureRecord s ++ tail in
+      ap (λ (m : ℕ). signatureFrom (levels m) (valuesAt bytes 0 (signatureWidths (levels m)))) (head-back .2)
+      ∙ ap (signatureFrom (levels (s .length))) values-back
+      ∙ card-made s fits sized
 
-  length-back : wordAt (signatureRecord s ++ tail) 0 ≡ signatureLength (levels (s .length))
-  length-back =
-      read-length (signatureLength (levels (s .length))) signatureKind (signatureFields s) tail (omega (arith, good .stages))
+  length-back : lengthField (signatureRecord s ++ tail) ≡ signatureLength (levels (s .length))
+  length-back = head-back .0 ∙ signature-same (levels (s .length)) s
 
   pub read-accepted : readRefusal (signatureRecord s ++ tail) ≡ 0
   unfolding readRefusal
   read-accepted =
+      let bytes : List ℕ = signatureRecord s ++ tail in
       let n : ℕ = signatureLength (levels (s .length)) in
-      let size = length-signature-fields s in
-      let stages = good .stages in
+      let size = length-append (signatureRecord s) tail in
+      let long = signature-length-is (levels (s .length)) in
       rw (
-        head-accepted signatureKind (signatureFields s) tail (omega arith) (omega arith) n signatureLeast (omega arith) (omega arith),
+        head-accepted signatureKind n signatureLeast bytes (head-back .1) length-back (omega (arith, signature-size s)) (omega arith)
+            (omega arith),
         length-back,
-        read-m,
+        head-back .2,
         eq-eqb n n refl,
         signature-back,
         fits,

@@ -11,9 +11,10 @@ use Rattle.signature.specs.Signature.{signatureFits, noSignature}
 use Rattle.matcher.specs.declared.Matcher.{Matcher}
 use Rattle.matcher.specs.Matcher.{matcherFits, noMatcher}
 use Rattle.record.specs.Layout.{
-  wordAt,
+  lengthWidth,
   lengthField,
-  kindField,
+  kindOf,
+  patternLength,
   signatureKind,
   checkpointKind,
   signatureLength,
@@ -75,10 +76,10 @@ before first second = cond (eqb first 0) second first
 -- "Reading: 8, length under 2 (10), 9, length too small (10)": what each record's head is asked, by its kind and least length.
 unfoldable pub headRefusal : ℕ → ℕ → List ℕ → ℕ
 headRefusal kind least s =
-    cond (ltb (length s) 4) 8
-    (cond (ltb (length s) (lengthField s + 4)) 8
+    cond (ltb (length s) lengthWidth) 8
+    (cond (ltb (length s) (lengthField s + lengthWidth)) 8
     (cond (ltb (lengthField s) 2) 10
-    (cond (eqb (kindField s) kind)
+    (cond (eqb (kindOf s) kind)
     (cond (ltb (lengthField s) least) 10 0)
     9)))
 
@@ -91,7 +92,7 @@ checkpointLeast = 22
 
 -- A card is read: ".. other 10", a length that does not suit k or a card that misfits.
 abbrev pub signatureSuits : List ℕ → Bool
-signatureSuits s = eqb (lengthField s) (signatureLength (levels (wordAt s 6))) && signatureFits (signatureAt s)
+signatureSuits s = eqb (lengthField s) (signatureLength (levels (patternLength s))) && signatureFits (signatureAt s)
 
 unfoldable pub readRefusal : List ℕ → ℕ
 readRefusal s = before (headRefusal signatureKind signatureLeast s) (cond (signatureSuits s) 0 10)
@@ -101,7 +102,7 @@ readSignature s = cond (eqb (readRefusal s) 0) (signatureAt s) noSignature
 
 -- "A reader says how many bytes it took".
 unfoldable pub readTaken : List ℕ → ℕ
-readTaken s = cond (eqb (readRefusal s) 0) (lengthField s + 4) 0
+readTaken s = cond (eqb (readRefusal s) 0) (lengthField s + lengthWidth) 0
 
 -- A watch is resumed under a card: the card (10), the head, "11, other 10".
 abbrev pub checkpointSuits : Signature → List ℕ → Bool
@@ -119,4 +120,4 @@ unfoldable pub restoredMatcher : Signature → List ℕ → Matcher
 restoredMatcher card s = cond (eqb (restoreRefusal card s) 0) (matcherAt card s) noMatcher
 
 unfoldable pub restoreTaken : Signature → List ℕ → ℕ
-restoreTaken card s = cond (eqb (restoreRefusal card s) 0) (lengthField s + 4) 0
+restoreTaken card s = cond (eqb (restoreRefusal card s) 0) (lengthField s + lengthWidth) 0

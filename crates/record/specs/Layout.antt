@@ -1,53 +1,47 @@
--- The layout of records as lists of bytes, written and read back (document 01, "Records").
-use Prim.Native.Nat.{ℕ, zero, suc, _+_, _*_, _/_, _%_}
+-- The layout of records: lists of fields, written as their bytes, and read back from the fields' values (document 01, "Records").
+use Prim.Native.Nat.{ℕ, _+_, _*_}
 use mathlib.Core.Bool.{Bool, cond, _&&_}
-use mathlib.Core.List.{List, [], _∷_, _++_}
-use lib.ListN.{length, getD}
+use mathlib.Core.List.{List, [], _∷_, _++_, map}
+use lib.ListN.{length, getD, take, drop}
 use lib.Dec.{leb, ltb, eqb}
+use Rattle.fields.specs.Fields.{Field, widths, size, bytesOf, numberAt, valuesAt, gathered}
 use Rattle.fingerprint.specs.declared.Key.{Key}
 use Rattle.fingerprint.specs.declared.Fingerprint.{Fingerprint}
-use Rattle.fingerprint.specs.Fingerprint.{empty, same}
+use Rattle.fingerprint.specs.Fingerprint.{empty, same, keyNumbers, printNumbers, keyOf, printOf, noKey, sameKey}
 use Rattle.ladder.specs.Prefix.{levels}
 use Rattle.lists.specs.Lists.{tabulate}
 use Rattle.signature.specs.declared.Signature.{Signature}
-use Rattle.signature.specs.Signature.{places}
+use Rattle.signature.specs.Signature.{places, noSignature}
 use Rattle.stage.specs.declared.Mark.{Mark}
 use Rattle.stage.specs.declared.Gap.{Gap}
 use Rattle.stage.specs.declared.Stage.{Stage}
 use Rattle.matcher.specs.declared.Matcher.{Matcher}
-use Rattle.stage.specs.Stage.{noStage}
-use Rattle.stage.specs.Stages.{stageCount}
-
--- "Little-endian.": a number in 4 bytes, and in 2.
-unfoldable pub word : ℕ → List ℕ
-word n = n % 256 ∷ n / 256 % 256 ∷ n / 65536 % 256 ∷ n / 16777216 % 256 ∷ []
-
-unfoldable pub half : ℕ → List ℕ
-half n = n % 256 ∷ n / 256 % 256 ∷ []
-
--- The number in the 4 bytes, or the 2, from a place on; 0 where fewer stand there.
-unfoldable pub wordAt : List ℕ → ℕ → ℕ
-wordAt s at =
-    cond (leb (at + 4) (length s))
-    (getD s at 0 + 256 * getD s (at + 1) 0 + 65536 * getD s (at + 2) 0 + 16777216 * getD s (at + 3) 0)
-    0
-
-unfoldable pub halfAt : List ℕ → ℕ → ℕ
-halfAt s at = cond (leb (at + 2) (length s)) (getD s at 0 + 256 * getD s (at + 1) 0) 0
-
--- ".. then fields of 4 bytes."
-unfoldable pub words : List ℕ → List ℕ
-words [] = []
-words (n ∷ fields) = word n ++ words fields
-
--- the lists f 0, f 1, .. f (n-1), one behind another
-unfoldable pub gathered : (ℕ → List ℕ) → ℕ → List ℕ
-gathered f zero = []
-gathered f (suc n) = gathered f n ++ f n
+use Rattle.stage.specs.Stage.{origin, noGap, noStage}
+use Rattle.stage.specs.Stages.{Stages, stageCount, stageAt}
+use Rattle.matcher.specs.Matcher.{noMatcher}
 
 -- "Length (4 bytes) of what follows it, kind (2 bytes), then fields of 4 bytes."
-unfoldable pub recordOf : ℕ → ℕ → List ℕ → List ℕ
-recordOf length kind fields = word length ++ half kind ++ words fields
+abbrev pub lengthWidth : ℕ
+lengthWidth = 4
+
+abbrev pub kindWidth : ℕ
+kindWidth = 2
+
+abbrev pub wordWidth : ℕ
+wordWidth = 4
+
+abbrev pub kindField : ℕ → Field
+kindField kind = record { width = kindWidth; value = kind }
+
+abbrev pub word : ℕ → Field
+word n = record { width = wordWidth; value = n }
+
+abbrev pub words : List ℕ → List Field
+words numbers = map word numbers
+
+-- A record, from what follows its length field.
+abbrev pub recordFields : List Field → List Field
+recordFields behind = record { width = lengthWidth; value = size (widths behind) } ∷ behind
 
 -- "Card, kind 1" and "parked watch, kind 2".
 abbrev pub signatureKind : ℕ
@@ -56,113 +50,171 @@ signatureKind = 1
 abbrev pub checkpointKind : ℕ
 checkpointKind = 2
 
--- The length field, for k stages: of a card "length 10 + 4(k+1)", of a parked watch "length 22 + 28k".
-abbrev pub signatureLength : ℕ → ℕ
-signatureLength k = 10 + 4 * (k + 1)
-
-abbrev pub checkpointLength : ℕ → ℕ
-checkpointLength k = 22 + 28 * k
-
 -- The fields of a key and of a fingerprint, and of what holds them.
-abbrev pub keyFields : Key → List ℕ
-keyFields key = key .r ∷ []
+abbrev pub keyFields : Key → List Field
+keyFields key = words (keyNumbers key)
 
-abbrev pub printFields : Fingerprint → List ℕ
-printFields f = f .value ∷ []
+abbrev pub printFields : Fingerprint → List Field
+printFields f = words (printNumbers f)
 
-abbrev pub markFields : Mark → List ℕ
-markFields mark = mark .at ∷ printFields (mark .print)
+abbrev pub markFields : Mark → List Field
+markFields mark = word (mark .at) ∷ printFields (mark .print)
 
-abbrev pub gapFields : Gap → List ℕ
-gapFields gap = gap .length ∷ printFields (gap .print)
+abbrev pub gapFields : Gap → List Field
+gapFields gap = word (gap .length) ∷ printFields (gap .print)
 
 -- "held, first, F_first, last, F_last, step, step print"
-abbrev pub stageFields : Stage → List ℕ
-stageFields s = s .held ∷ markFields (s .first) ++ markFields (s .last) ++ gapFields (s .step)
+abbrev pub stageFields : Stage → List Field
+stageFields s = word (s .held) ∷ markFields (s .first) ++ markFields (s .last) ++ gapFields (s .step)
 
 -- the last fingerprint of a card, that of P_k
 abbrev pub lastPrint : Signature → Fingerprint
 lastPrint s = getD (s .prints) (levels (s .length)) empty
 
 -- the fields of a card's print i, and of a watch's stage i
-abbrev pub printFieldsOf : List Fingerprint → ℕ → List ℕ
+abbrev pub printFieldsOf : List Fingerprint → ℕ → List Field
 printFieldsOf prints i = printFields (getD prints i empty)
 
-abbrev pub stageFieldsOf : List Stage → ℕ → List ℕ
-stageFieldsOf stages i = stageFields (getD stages i noStage)
+abbrev pub stageFieldsOf : Stages → ℕ → List Field
+stageFieldsOf stages i = stageFields (stageAt stages i)
 
--- "m, r, the k + 1 fingerprints"
-unfoldable pub signatureFields : Signature → List ℕ
-signatureFields s =
-    s .length ∷ keyFields (s .key) ++ gathered (printFieldsOf (s .prints)) (levels (s .length) + 1)
+-- What follows the length field, for k stages. "Card, kind 1: m, r, the k + 1 fingerprints."
+unfoldable pub signatureBody : ℕ → Signature → List Field
+signatureBody k s =
+    kindField signatureKind ∷ word (s .length) ∷ keyFields (s .key) ++ gathered (printFieldsOf (s .prints)) (k + 1)
 
--- "m, r, fingerprint of P_k, t, F_t, then stages 0 .. k-1, seven fields each"
-unfoldable pub checkpointFields : Matcher → List ℕ
-checkpointFields w =
-    w .signature .length ∷ keyFields (w .signature .key)
+-- "Parked watch, kind 2: m, r, fingerprint of P_k, t, F_t, then stages 0 .. k-1, seven fields each in the order above."
+unfoldable pub checkpointBody : ℕ → Matcher → List Field
+checkpointBody k w =
+    kindField checkpointKind ∷ word (w .signature .length) ∷ keyFields (w .signature .key)
     ++ printFields (lastPrint (w .signature))
     ++ markFields (w .now)
-    ++ gathered (stageFieldsOf (w .stages)) (levels (w .signature .length))
+    ++ gathered (stageFieldsOf (w .stages)) k
 
 -- The record of a card, and that of a parked watch.
 abbrev pub signatureRecord : Signature → List ℕ
-signatureRecord s = recordOf (signatureLength (levels (s .length))) signatureKind (signatureFields s)
+signatureRecord s = bytesOf (recordFields (signatureBody (levels (s .length)) s))
 
 abbrev pub checkpointRecord : Matcher → List ℕ
-checkpointRecord w = recordOf (checkpointLength (levels (w .signature .length))) checkpointKind (checkpointFields w)
+checkpointRecord w = bytesOf (recordFields (checkpointBody (levels (w .signature .length)) w))
 
--- What the fields from a place on make.
-abbrev pub keyAt : List ℕ → ℕ → Key
-keyAt s at = record { r = wordAt s at }
+-- The widths of their fields and what the length field says, for k stages: the same for every card and every watch.
+unfoldable pub signatureWidths : ℕ → List ℕ
+signatureWidths k = widths (recordFields (signatureBody k noSignature))
 
-abbrev pub printAt : List ℕ → ℕ → Fingerprint
-printAt s at = record { value = wordAt s at }
+unfoldable pub checkpointWidths : ℕ → List ℕ
+checkpointWidths k = widths (recordFields (checkpointBody k noMatcher))
 
-abbrev pub markAt : List ℕ → ℕ → Mark
-markAt s at = record { at = wordAt s at; print = printAt s (at + 4) }
+unfoldable pub signatureLength : ℕ → ℕ
+signatureLength k = size (widths (signatureBody k noSignature))
 
-abbrev pub gapAt : List ℕ → ℕ → Gap
-gapAt s at = record { length = wordAt s at; print = printAt s (at + 4) }
+unfoldable pub checkpointLength : ℕ → ℕ
+checkpointLength k = size (widths (checkpointBody k noMatcher))
 
-abbrev pub stageAt : List ℕ → ℕ → Stage
-stageAt s at =
-    record { held = wordAt s at; first = markAt s (at + 4); last = markAt s (at + 12); step = gapAt s (at + 20) }
-
--- The length field and the kind of a record.
+-- What stands at the front of every record: the length field, the kind and m.
 abbrev pub lengthField : List ℕ → ℕ
-lengthField s = wordAt s 0
+lengthField s = numberAt s 0 lengthWidth
 
-abbrev pub kindField : List ℕ → ℕ
-kindField s = halfAt s 4
+abbrev pub kindOf : List ℕ → ℕ
+kindOf s = numberAt s lengthWidth kindWidth
 
--- The card that a card's record makes: 0 past P_k.
-abbrev pub signaturePlace : List ℕ → ℕ → ℕ → Fingerprint
-signaturePlace s k i = cond (leb i k) (printAt s (14 + 4 * i)) empty
+abbrev pub patternLength : List ℕ → ℕ
+patternLength s = numberAt s (lengthWidth + kindWidth) wordWidth
 
-unfoldable pub signatureAt : List ℕ → Signature
-signatureAt s =
+-- How many fields a key, a fingerprint, a mark, a gap and a stage have, and which fields of a record are which: length and kind first.
+abbrev pub keyCount : ℕ
+keyCount = length (keyFields noKey)
+
+abbrev pub printCount : ℕ
+printCount = length (printFields empty)
+
+abbrev pub markCount : ℕ
+markCount = length (markFields origin)
+
+abbrev pub gapCount : ℕ
+gapCount = length (gapFields noGap)
+
+abbrev pub stageFieldCount : ℕ
+stageFieldCount = length (stageFields noStage)
+
+abbrev pub mPosition : ℕ
+mPosition = 2
+
+abbrev pub keyPosition : ℕ
+keyPosition = mPosition + 1
+
+abbrev pub printPosition : ℕ
+printPosition = keyPosition + keyCount
+
+abbrev pub nowPosition : ℕ
+nowPosition = printPosition + printCount
+
+abbrev pub stagesPosition : ℕ
+stagesPosition = nowPosition + markCount
+
+-- n values, from field number i on
+abbrev pub part : ℕ → ℕ → List ℕ → List ℕ
+part i n values = take n (drop i values)
+
+-- What the values of fields make.
+unfoldable pub markFrom : List ℕ → Mark
+markFrom values = record { at = getD values 0 0; print = printOf (part 1 printCount values) }
+
+unfoldable pub gapFrom : List ℕ → Gap
+gapFrom values = record { length = getD values 0 0; print = printOf (part 1 printCount values) }
+
+unfoldable pub stageFrom : List ℕ → Stage
+stageFrom values =
     record {
-      length = wordAt s 6;
-      key = keyAt s 10;
-      prints = tabulate (signaturePlace s (levels (wordAt s 6))) places;
+      held = getD values 0 0;
+      first = markFrom (part 1 markCount values);
+      last = markFrom (part (1 + markCount) markCount values);
+      step = gapFrom (part (1 + markCount + markCount) gapCount values);
     }
 
--- Whether a parked watch has the card's m, r and last fingerprint.
-abbrev pub sameKey : Key → Key → Bool
-sameKey a b = eqb (a .r) (b .r)
+unfoldable pub keyFrom : List ℕ → Key
+keyFrom values = keyOf (part keyPosition keyCount values)
+
+unfoldable pub printFrom : List ℕ → ℕ → Fingerprint
+printFrom values i = printOf (part (printPosition + i * printCount) printCount values)
+
+-- The card that the values of a card's record with k stages make: 0 past P_k.
+abbrev pub signaturePlace : List ℕ → ℕ → ℕ → Fingerprint
+signaturePlace values k i = cond (leb i k) (printFrom values i) empty
+
+abbrev pub signatureFrom : ℕ → List ℕ → Signature
+signatureFrom k values =
+    record {
+      length = getD values mPosition 0;
+      key = keyFrom values;
+      prints = tabulate (signaturePlace values k) places;
+    }
+
+unfoldable pub signatureAt : List ℕ → Signature
+signatureAt s = signatureFrom (levels (patternLength s)) (valuesAt s 0 (signatureWidths (levels (patternLength s))))
+
+-- The values of a parked watch's record under a card, and whether they have the card's m, r and last fingerprint.
+abbrev pub parkedValues : Signature → List ℕ → List ℕ
+parkedValues card s = valuesAt s 0 (checkpointWidths (levels (card .length)))
 
 unfoldable pub samePattern : Signature → List ℕ → Bool
 samePattern card s =
-    eqb (wordAt s 6) (card .length) && sameKey (keyAt s 10) (card .key) && same (printAt s 14) (lastPrint card)
+    eqb (getD (parkedValues card s) mPosition 0) (card .length)
+    && sameKey (keyFrom (parkedValues card s)) (card .key)
+    && same (printFrom (parkedValues card s) 0) (lastPrint card)
 
--- The watch that a parked record makes under a card: nothing listed past stage k-1.
+-- The watch that they make under the card: nothing listed past stage k-1.
 abbrev pub stagePlace : List ℕ → ℕ → ℕ → Stage
-stagePlace s k i = cond (ltb i k) (stageAt s (26 + 28 * i)) noStage
+stagePlace values k i =
+    cond (ltb i k) (stageFrom (part (stagesPosition + i * stageFieldCount) stageFieldCount values)) noStage
 
-unfoldable pub matcherAt : Signature → List ℕ → Matcher
-matcherAt card s =
+abbrev pub matcherFrom : Signature → List ℕ → Matcher
+matcherFrom card values =
     record {
       signature = card;
-      now = markAt s 18;
-      stages = tabulate (stagePlace s (levels (card .length))) stageCount;
+      now = markFrom (part nowPosition markCount values);
+      stages = tabulate (stagePlace values (levels (card .length))) stageCount;
     }
+
+unfoldable pub matcherAt : Signature → List ℕ → Matcher
+matcherAt card s = matcherFrom card (parkedValues card s)

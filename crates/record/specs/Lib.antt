@@ -1,3 +1,3 @@
 pub mod Layout
+pub mod Places
 pub mod Calls
-pub mod Field

@@ -5,24 +5,27 @@ ghost use lib.ListN.{length};
 ghost use Rattle.ladder.specs.Prefix.{levels};
 ghost use Rattle.lists.specs.Lists.{tabulate};
 ghost use Rattle.refusal.specs.Number.{refusalNumber, number};
-ghost use Rattle.stage.specs.Stage.{noStage};
+ghost use Rattle.stage.specs.Stage.{origin, noGap, noStage};
+ghost use Rattle.stage.specs.Stages.{stageCount};
 ghost use Rattle.matcher.specs.Matcher.{noMatcher};
+ghost use Rattle.fields.specs.Fields.{widths, valuesAt, gathered, pasted, stamped};
 ghost use Rattle.record.specs.Layout.{
-  gathered,
+  lengthWidth,
   markFields,
   gapFields,
   stageFields,
   stageFieldsOf,
-  markAt,
-  gapAt,
-  stageAt,
+  markFrom,
+  gapFrom,
+  stageFrom,
   stagePlace,
   checkpointLength,
+  checkpointWidths,
   checkpointRecord,
   samePattern,
   matcherAt,
 };
-ghost use Rattle.record.specs.Field.{pasted, stamped};
+ghost use Rattle.record.specs.Places.{markSize, gapSize, stageSize, stagesPlace, longestCheckpoint};
 ghost use Rattle.record.specs.Calls.{
   saveRefusal,
   saveUsed,
@@ -35,15 +38,19 @@ ghost use Rattle.record.specs.Calls.{
   restoreTaken,
 };
 use crate::Written;
-use crate::field::check_head;
-use crate::field::key_at;
-use crate::field::number_at;
-use crate::field::print_at;
-use crate::field::put_head;
-use crate::field::put_key;
-use crate::field::put_print;
-use crate::field::put_word;
-use crate::field::same_key;
+use crate::part::KEY_AT;
+use crate::part::M_AT;
+use crate::part::PRINT_AT;
+use crate::part::PRINT_SIZE;
+use crate::part::WORD;
+use crate::part::check_head;
+use crate::part::key_at;
+use crate::part::print_at;
+use crate::part::put_head;
+use crate::part::put_key;
+use crate::part::put_print;
+use crate::part::put_word;
+use crate::part::word_at;
 use matcher::Matcher;
 use refusal::Refusal;
 use refusal::Verdict;
@@ -54,9 +61,28 @@ use stage::Mark;
 use stage::Stage;
 
 // The kind of a checkpoint's record, and the least length field that one can have.
-pub const CHECKPOINT_KIND: u32 = 2;
+pub const CHECKPOINT_KIND: u64 = 2;
 
-pub const CHECKPOINT_LEAST: u32 = 22;
+pub const CHECKPOINT_LEAST: u64 = 22;
+
+// Sizes in bytes: a mark and a gap are a number and a fingerprint.
+const MARK_SIZE: usize = WORD + PRINT_SIZE;
+
+const GAP_SIZE: usize = WORD + PRINT_SIZE;
+
+// Places in a stage: behind held the first start, the last and the step.
+const FIRST_AT: usize = WORD;
+
+const LAST_AT: usize = FIRST_AT + MARK_SIZE;
+
+const STEP_AT: usize = LAST_AT + MARK_SIZE;
+
+const STAGE_SIZE: usize = STEP_AT + GAP_SIZE;
+
+// Places in the record: behind the fingerprint of P_k stand t and F_t, then the stages.
+const NOW_AT: usize = PRINT_AT + PRINT_SIZE;
+
+const STAGES_AT: usize = NOW_AT + MARK_SIZE;
 
 // What restoring hands back: the matcher, and the bytes taken; nothing where the call is refused.
 pub struct Restored {
@@ -65,61 +91,61 @@ pub struct Restored {
     pub taken: usize,
 }
 
-// The length field of a checkpoint's record, for k stages.
-fn checkpoint_length(k: u32) -> u64
-    ensures { λ n. ⌜ n ≡ checkpointLength k ⌝ }
+// How many bytes a checkpoint's record has, for k stages.
+fn checkpoint_size(k: u32) -> usize
+    ensures { λ n. ⌜ n ≡ checkpointLength k + lengthWidth ⌝ }
 {
-    22 + 28 * (k as u64)
+    STAGES_AT + STAGE_SIZE * (k as usize)
 }
 
 fn put_mark(buf: &mut [u8], at: usize, mark: Mark)
-    requires { ⌜ at + 8 ≤ length (now buf) ⌝ }
+    requires { ⌜ at + markSize ≤ length (now buf) ⌝ }
     ensures { λ _. ⌜ now (buf .exit) ≡ stamped (now (buf .entry)) at (markFields mark) ⌝ }
 {
     let print = mark.print;
     put_word(buf, at, mark.at);
-    put_print(buf, at + 4, print);
+    put_print(buf, at + WORD, print);
 }
 
 fn put_gap(buf: &mut [u8], at: usize, gap: Gap)
-    requires { ⌜ at + 8 ≤ length (now buf) ⌝ }
+    requires { ⌜ at + gapSize ≤ length (now buf) ⌝ }
     ensures { λ _. ⌜ now (buf .exit) ≡ stamped (now (buf .entry)) at (gapFields gap) ⌝ }
 {
     let print = gap.print;
     put_word(buf, at, gap.length);
-    put_print(buf, at + 4, print);
+    put_print(buf, at + WORD, print);
 }
 
 // The seven fields of a stage.
 fn put_stage(buf: &mut [u8], at: usize, stage: Stage)
-    requires { ⌜ at + 28 ≤ length (now buf) ⌝ }
+    requires { ⌜ at + stageSize ≤ length (now buf) ⌝ }
     ensures { λ _. ⌜ now (buf .exit) ≡ stamped (now (buf .entry)) at (stageFields stage) ⌝ }
 {
     let first = stage.first;
     let last = stage.last;
     let step = stage.step;
     put_word(buf, at, stage.held);
-    put_mark(buf, at + 4, first);
-    put_mark(buf, at + 12, last);
-    put_gap(buf, at + 20, step);
+    put_mark(buf, at + FIRST_AT, first);
+    put_mark(buf, at + LAST_AT, last);
+    put_gap(buf, at + STEP_AT, step);
 }
 
 // Writes the first n stages.
 fn put_stages(buf: &mut [u8], stages: [Stage; 20], n: usize)
-    requires { ⌜ (26 + 28 * n ≤ length (now buf)) × (n ≤ 20) ⌝ }
-    ensures { λ _. ⌜ now (buf .exit) ≡ stamped (now (buf .entry)) 26 (gathered (stageFieldsOf stages) n) ⌝ }
+    requires { ⌜ (stagesPlace + stageSize * n ≤ length (now buf)) × (n ≤ stageCount) ⌝ }
+    ensures { λ _. ⌜ now (buf .exit) ≡ stamped (now (buf .entry)) stagesPlace (gathered (stageFieldsOf stages) n) ⌝ }
 {
     let mut i: usize = 0;
     while i < n {
         let stage = stages[i];
-        put_stage(buf, 26 + 28 * i, stage);
+        put_stage(buf, STAGES_AT + STAGE_SIZE * i, stage);
         i = i + 1;
     }
 }
 
 // Writes the checkpoint's record at the front of a buffer that has room for it.
 fn put_checkpoint(buf: &mut [u8], matcher: Matcher, k: u32)
-    requires { ⌜ (k ≡ levels (matcher .signature .length)) × (k ≤ 20) × (26 + 28 * k ≤ length (now buf)) ⌝ }
+    requires { ⌜ (k ≡ levels (matcher .signature .length)) × (k ≤ stageCount) × (stagesPlace + stageSize * k ≤ length (now buf)) ⌝ }
     ensures { λ _. ⌜ now (buf .exit) ≡ pasted (now (buf .entry)) 0 (checkpointRecord matcher) ⌝ }
 {
     let signature = matcher.signature;
@@ -127,11 +153,11 @@ fn put_checkpoint(buf: &mut [u8], matcher: Matcher, k: u32)
     let last = signature.prints[k as usize];
     let now = matcher.now;
     let stages = matcher.stages;
-    put_head(buf, checkpoint_length(k) as u32, CHECKPOINT_KIND);
-    put_word(buf, 6, signature.length);
-    put_key(buf, 10, key);
-    put_print(buf, 14, last);
-    put_mark(buf, 18, now);
+    put_head(buf, (checkpoint_size(k) - WORD) as u32, CHECKPOINT_KIND);
+    put_word(buf, M_AT, signature.length);
+    put_key(buf, KEY_AT, key);
+    put_print(buf, PRINT_AT, last);
+    put_mark(buf, NOW_AT, now);
     put_stages(buf, stages, k as usize);
 }
 
@@ -149,7 +175,7 @@ pub fn save(matcher: Matcher, buf: &mut [u8]) -> Written
     }
     let signature = matcher.signature;
     let k = levels(signature.length);
-    let size = (checkpoint_length(k) as usize) + 4;
+    let size = checkpoint_size(k);
     if buf.len() < size {
         return Written {
             verdict: Verdict::Refused(Refusal::NoSpace),
@@ -185,36 +211,36 @@ pub fn save_behind(matcher: Matcher, buf: &mut [u8], used: usize) -> Written
 }
 
 fn mark_at(buf: &[u8], at: usize) -> Mark
-    requires { ⌜ at ≤ 586 ⌝ }
-    ensures { λ mark. ⌜ mark ≡ markAt (now (buf .entry)) at ⌝ }
+    requires { ⌜ at ≤ longestCheckpoint ⌝ }
+    ensures { λ mark. ⌜ mark ≡ markFrom (valuesAt (now (buf .entry)) at (widths (markFields origin))) ⌝ }
 {
-    let print = print_at(buf, at + 4);
+    let print = print_at(buf, at + WORD);
     Mark {
-        at: number_at(buf, at),
+        at: word_at(buf, at),
         print,
     }
 }
 
 fn gap_at(buf: &[u8], at: usize) -> Gap
-    requires { ⌜ at ≤ 586 ⌝ }
-    ensures { λ gap. ⌜ gap ≡ gapAt (now (buf .entry)) at ⌝ }
+    requires { ⌜ at ≤ longestCheckpoint ⌝ }
+    ensures { λ gap. ⌜ gap ≡ gapFrom (valuesAt (now (buf .entry)) at (widths (gapFields noGap))) ⌝ }
 {
-    let print = print_at(buf, at + 4);
+    let print = print_at(buf, at + WORD);
     Gap {
-        length: number_at(buf, at),
+        length: word_at(buf, at),
         print,
     }
 }
 
 fn stage_at(buf: &[u8], at: usize) -> Stage
-    requires { ⌜ at ≤ 558 ⌝ }
-    ensures { λ stage. ⌜ stage ≡ stageAt (now (buf .entry)) at ⌝ }
+    requires { ⌜ at + stageSize ≤ longestCheckpoint ⌝ }
+    ensures { λ stage. ⌜ stage ≡ stageFrom (valuesAt (now (buf .entry)) at (widths (stageFields noStage))) ⌝ }
 {
-    let first = mark_at(buf, at + 4);
-    let last = mark_at(buf, at + 12);
-    let step = gap_at(buf, at + 20);
+    let first = mark_at(buf, at + FIRST_AT);
+    let last = mark_at(buf, at + LAST_AT);
+    let step = gap_at(buf, at + STEP_AT);
     Stage {
-        held: number_at(buf, at),
+        held: word_at(buf, at),
         first,
         last,
         step,
@@ -223,17 +249,17 @@ fn stage_at(buf: &[u8], at: usize) -> Stage
 
 // Stage i of a checkpoint's record with k stages: nothing listed past stage k-1.
 fn stage_place(buf: &[u8], k: u32, i: usize) -> Stage
-    requires { ⌜ i < 20 ⌝ }
-    ensures { λ stage. ⌜ stage ≡ stagePlace (now (buf .entry)) k i ⌝ }
+    requires { ⌜ i < stageCount ⌝ }
+    ensures { λ stage. ⌜ stage ≡ stagePlace (valuesAt (now (buf .entry)) 0 (checkpointWidths k)) k i ⌝ }
 {
     if (k as usize) <= i {
         return Stage::none();
     }
-    stage_at(buf, 26 + 28 * i)
+    stage_at(buf, STAGES_AT + STAGE_SIZE * i)
 }
 
 fn stages_at(buf: &[u8], k: u32) -> [Stage; 20]
-    ensures { λ stages. ⌜ stages ≡ tabulate (stagePlace (now (buf .entry)) k) 20 ⌝ }
+    ensures { λ stages. ⌜ stages ≡ tabulate (stagePlace (valuesAt (now (buf .entry)) 0 (checkpointWidths k)) k) stageCount ⌝ }
 {
     let nothing = Stage::none();
     let mut stages = [nothing; 20];
@@ -249,7 +275,7 @@ fn stages_at(buf: &[u8], k: u32) -> [Stage; 20]
 fn matcher_at(buf: &[u8], signature: Signature) -> Matcher
     ensures { λ matcher. ⌜ matcher ≡ matcherAt signature (now (buf .entry)) ⌝ }
 {
-    let now = mark_at(buf, 18);
+    let now = mark_at(buf, NOW_AT);
     let stages = stages_at(buf, levels(signature.length));
     Matcher {
         signature,
@@ -260,19 +286,19 @@ fn matcher_at(buf: &[u8], signature: Signature) -> Matcher
 
 // Whether a checkpoint has the signature's length, key and last fingerprint.
 fn same_pattern(buf: &[u8], signature: Signature) -> bool
-    requires { ⌜ levels (signature .length) ≤ 20 ⌝ }
+    requires { ⌜ levels (signature .length) ≤ stageCount ⌝ }
     ensures { λ ok. ⌜ ok ≡ samePattern signature (now (buf .entry)) ⌝ }
 {
     let m = signature.length;
-    if number_at(buf, 6) != m {
+    if word_at(buf, M_AT) != m {
         return false;
     }
     let key = signature.key;
-    if !same_key(key_at(buf, 10), key) {
+    if !key_at(buf, KEY_AT).equals(key) {
         return false;
     }
     let last = signature.prints[levels(m) as usize];
-    print_at(buf, 14).equals(last)
+    print_at(buf, PRINT_AT).equals(last)
 }
 
 fn not_restored(refusal: Refusal) -> Restored
@@ -302,9 +328,8 @@ pub fn restore(signature: Signature, buf: &[u8]) -> Restored
     if !same_pattern(buf, signature) {
         return not_restored(Refusal::OtherPassage);
     }
-    let length = number_at(buf, 0);
-    let k = levels(signature.length);
-    if (length as u64) != checkpoint_length(k) {
+    let taken = (word_at(buf, 0) as usize) + WORD;
+    if taken != checkpoint_size(levels(signature.length)) {
         return not_restored(Refusal::Misfit);
     }
     let matcher = matcher_at(buf, signature);
@@ -314,6 +339,6 @@ pub fn restore(signature: Signature, buf: &[u8]) -> Restored
     Restored {
         verdict: Verdict::Accepted,
         matcher,
-        taken: (length as usize) + 4,
+        taken,
     }
 }

@@ -1,20 +1,22 @@
 // Records of signatures and checkpoints (document 01, "Records"): written into a lent buffer, and read back.
 ghost use mathlib.Core.Path.{_≡_};
-ghost use Prim.Native.Nat.{_+_, _*_, _≤_};
+ghost use Prim.Native.Nat.{_+_, _*_, _≤_, _<_};
 ghost use lib.ListN.{length};
 ghost use Rattle.ladder.specs.Prefix.{levels};
 ghost use Rattle.lists.specs.Lists.{tabulate};
 ghost use Rattle.refusal.specs.Number.{refusalNumber, number};
-ghost use Rattle.signature.specs.Signature.{noSignature};
+ghost use Rattle.signature.specs.Signature.{places, noSignature};
+ghost use Rattle.fields.specs.Fields.{valuesAt, gathered, stamped, pasted};
 ghost use Rattle.record.specs.Layout.{
-  gathered,
+  lengthWidth,
   printFieldsOf,
   signatureLength,
+  signatureWidths,
   signatureRecord,
   signatureAt,
   signaturePlace,
 };
-ghost use Rattle.record.specs.Field.{pasted, stamped};
+ghost use Rattle.record.specs.Places.{printSize, printPlace};
 ghost use Rattle.record.specs.Calls.{
   writeRefusal,
   writeUsed,
@@ -29,22 +31,27 @@ use refusal::Verdict;
 use signature::Signature;
 use signature::levels;
 
-mod field; // field.rt: numbers, keys and fingerprints as fields, and a record's head
+mod part; // part.rt: numbers, keys and fingerprints at a place of a slice, and a record's head
 pub mod checkpoint; // checkpoint.rt: checkpoints of matchers
 
-use crate::field::check_head;
-use crate::field::key_at;
-use crate::field::number_at;
-use crate::field::print_at;
-use crate::field::put_head;
-use crate::field::put_key;
-use crate::field::put_print;
-use crate::field::put_word;
+use crate::part::KEY_AT;
+use crate::part::M_AT;
+use crate::part::PRINT_AT;
+use crate::part::PRINT_SIZE;
+use crate::part::WORD;
+use crate::part::check_head;
+use crate::part::key_at;
+use crate::part::print_at;
+use crate::part::put_head;
+use crate::part::put_key;
+use crate::part::put_print;
+use crate::part::put_word;
+use crate::part::word_at;
 
 // The kind of a card's record, and the least length field that one can have.
-pub const SIGNATURE_KIND: u32 = 1;
+pub const SIGNATURE_KIND: u64 = 1;
 
-pub const SIGNATURE_LEAST: u32 = 10;
+pub const SIGNATURE_LEAST: u64 = 10;
 
 // What a writer hands back: the bytes used, 0 where the call is refused; behind a used part, the new used length, the old one where the
 // call is refused.
@@ -60,36 +67,36 @@ pub struct SignatureRead {
     pub taken: usize,
 }
 
-// The length field of a card's record, for k stages.
-fn signature_length(k: u32) -> u64
-    ensures { λ n. ⌜ n ≡ signatureLength k ⌝ }
+// How many bytes a card's record has, for k stages.
+fn signature_size(k: u32) -> usize
+    ensures { λ n. ⌜ n ≡ signatureLength k + lengthWidth ⌝ }
 {
-    10 + 4 * ((k as u64) + 1)
+    PRINT_AT + PRINT_SIZE * ((k as usize) + 1)
 }
 
 // Writes the first n fingerprints.
 fn put_prints(buf: &mut [u8], prints: [Fingerprint; 21], n: usize)
-    requires { ⌜ (14 + 4 * n ≤ length (now buf)) × (n ≤ 21) ⌝ }
-    ensures { λ _. ⌜ now (buf .exit) ≡ stamped (now (buf .entry)) 14 (gathered (printFieldsOf prints) n) ⌝ }
+    requires { ⌜ (printPlace + printSize * n ≤ length (now buf)) × (n ≤ places) ⌝ }
+    ensures { λ _. ⌜ now (buf .exit) ≡ stamped (now (buf .entry)) printPlace (gathered (printFieldsOf prints) n) ⌝ }
 {
     let mut i: usize = 0;
     while i < n {
         let print = prints[i];
-        put_print(buf, 14 + 4 * i, print);
+        put_print(buf, PRINT_AT + PRINT_SIZE * i, print);
         i = i + 1;
     }
 }
 
 // Writes the card's record at the front of a buffer that has room for it.
 fn put_signature(buf: &mut [u8], signature: Signature, k: u32)
-    requires { ⌜ (k ≡ levels (signature .length)) × (k ≤ 20) × (14 + 4 * (k + 1) ≤ length (now buf)) ⌝ }
+    requires { ⌜ (k ≡ levels (signature .length)) × (k < places) × (printPlace + printSize * (k + 1) ≤ length (now buf)) ⌝ }
     ensures { λ _. ⌜ now (buf .exit) ≡ pasted (now (buf .entry)) 0 (signatureRecord signature) ⌝ }
 {
     let key = signature.key;
     let prints = signature.prints;
-    put_head(buf, signature_length(k) as u32, SIGNATURE_KIND);
-    put_word(buf, 6, signature.length);
-    put_key(buf, 10, key);
+    put_head(buf, (signature_size(k) - WORD) as u32, SIGNATURE_KIND);
+    put_word(buf, M_AT, signature.length);
+    put_key(buf, KEY_AT, key);
     put_prints(buf, prints, (k as usize) + 1);
 }
 
@@ -106,7 +113,7 @@ pub fn write_signature(signature: Signature, buf: &mut [u8]) -> Written
         };
     }
     let k = levels(signature.length);
-    let size = (signature_length(k) as usize) + 4;
+    let size = signature_size(k);
     if buf.len() < size {
         return Written {
             verdict: Verdict::Refused(Refusal::NoSpace),
@@ -122,17 +129,17 @@ pub fn write_signature(signature: Signature, buf: &mut [u8]) -> Written
 
 // The fingerprint at place i of a card's record with k stages: nothing past P_k.
 fn place_at(buf: &[u8], k: u32, i: usize) -> Fingerprint
-    requires { ⌜ i ≤ 21 ⌝ }
-    ensures { λ print. ⌜ print ≡ signaturePlace (now (buf .entry)) k i ⌝ }
+    requires { ⌜ i < places ⌝ }
+    ensures { λ print. ⌜ print ≡ signaturePlace (valuesAt (now (buf .entry)) 0 (signatureWidths k)) k i ⌝ }
 {
     if (k as usize) < i {
         return Fingerprint::empty();
     }
-    print_at(buf, 14 + 4 * i)
+    print_at(buf, PRINT_AT + PRINT_SIZE * i)
 }
 
 fn prints_at(buf: &[u8], k: u32) -> [Fingerprint; 21]
-    ensures { λ prints. ⌜ prints ≡ tabulate (signaturePlace (now (buf .entry)) k) 21 ⌝ }
+    ensures { λ prints. ⌜ prints ≡ tabulate (signaturePlace (valuesAt (now (buf .entry)) 0 (signatureWidths k)) k) places ⌝ }
 {
     let nothing = Fingerprint::empty();
     let mut prints = [nothing; 21];
@@ -148,8 +155,8 @@ fn prints_at(buf: &[u8], k: u32) -> [Fingerprint; 21]
 fn signature_at(buf: &[u8]) -> Signature
     ensures { λ signature. ⌜ signature ≡ signatureAt (now (buf .entry)) ⌝ }
 {
-    let m = number_at(buf, 6);
-    let key = key_at(buf, 10);
+    let m = word_at(buf, M_AT);
+    let key = key_at(buf, KEY_AT);
     let prints = prints_at(buf, levels(m));
     Signature {
         length: m,
@@ -178,9 +185,9 @@ pub fn read_signature(buf: &[u8]) -> SignatureRead
     if let Verdict::Refused(refusal) = head {
         return unread(refusal);
     }
-    let length = number_at(buf, 0);
-    let k = levels(number_at(buf, 6));
-    if (length as u64) != signature_length(k) {
+    let taken = (word_at(buf, 0) as usize) + WORD;
+    let k = levels(word_at(buf, M_AT));
+    if taken != signature_size(k) {
         return unread(Refusal::Misfit);
     }
     let signature = signature_at(buf);
@@ -190,6 +197,6 @@ pub fn read_signature(buf: &[u8]) -> SignatureRead
     SignatureRead {
         verdict: Verdict::Accepted,
         signature,
-        taken: (length as usize) + 4,
+        taken,
     }
 }

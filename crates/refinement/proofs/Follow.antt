@@ -9,8 +9,8 @@ use mathlib.Core.Option.{some}
 use native.Mathlib.Decide.{ℕ-discrete}
 use native.Mathlib.Omega.{arith}
 use lib.Dec.{eqb}
-use lib.ListN.{length, take, getD, set, length-set}
-use lib.Seq.{getD-set-same, getD-set-other, take-suc-set}
+use lib.ListN.{length, take, getD, length-set}
+use lib.Seq.{take-suc-set}
 use borrow.Author.Tests.{eqb-false, eq-eqb, ne-eqb}
 use Rattle.fingerprint.specs.Fingerprint.{same, empty}
 use Rattle.ladder.specs.Prefix.{block, levels, prefixLength}
@@ -22,8 +22,9 @@ use Rattle.stage.specs.declared.Gap.{Gap}
 use Rattle.stage.specs.declared.Stage.{Stage}
 use Rattle.matcher.specs.declared.Answer.{Answer}
 use Rattle.stage.specs.declared.Progression.{Progression}
-use Rattle.stage.specs.Stage.{noStage, gapTo, entered, setsAside, allButLast}
-use Rattle.stage.specs.Stages.{stageCount}
+use Rattle.stage.specs.Stage.{gapTo, entered, setsAside, allButLast}
+use Rattle.stage.specs.Stages.{stageCount, Whole, stageAt, withStage}
+use Rattle.stage.proofs.Stages.{stage-with-same, stage-with-other, whole-with}
 use Rattle.matcher.specs.Stroke.{withSet, compared, ringing, promoted, promotedUnder, matches, tried}
 use Rattle.matcher.specs.declared.Walk.{Walk}
 use Rattle.matcher.specs.declared.Round.{Round}
@@ -81,8 +82,8 @@ module _ (c : Scene) where
 
   -- The watch stores what the ladder lists and answers what it answers, with at most n sets set aside.
   pub record Follows (n : ℕ) (l : ladder.Walk) (w : Walk) : Type 0 where
-    pub long : length (w .stages) ≡ stageCount
-    pub stage : (j : ℕ) → j < stageCount → getD (w .stages) j noStage ≡ stored (l .stages j)
+    pub long : Whole (w .stages)
+    pub stage : (j : ℕ) → j < stageCount → stageAt (w .stages) j ≡ stored (l .stages j)
     pub room : length (w .answer .sets) ≡ stageCount
     pub few : w .answer .asides ≤ n
     pub answer : readAnswer (w .answer) ≡ l .answer
@@ -150,7 +151,7 @@ module _ (c : Scene) where
         (low : (x : ℕ) → Has (l .stages i) x → x ≤ s)
       where
         abbrev old : Stage
-        old = getD (w .stages) i noStage
+        old = stageAt (w .stages) i
 
         abbrev aside : Bool
         aside = setsAside (c .card .key) old (mark s)
@@ -158,18 +159,18 @@ module _ (c : Scene) where
         enter-stage :
             (j : ℕ)
             → j < stageCount
-            → getD (set (w .stages) i (entered (c .card .key) old (mark s))) j noStage ≡ stored (entering i s l .stages j)
+            → stageAt (withStage (w .stages) i (entered (c .card .key) old (mark s))) j ≡ stored (entering i s l .stages j)
         enter-stage j b =
             elim (ℕ-discrete j i) [
               | yes e ↦
                   rw (
                     e,
                     eq-eqb i i refl,
-                    getD-set-same (w .stages) i (entered (c .card .key) old (mark s)) noStage (omega (arith, q .long)),
+                    stage-with-same (w .stages) i (entered (c .card .key) old (mark s)) (q .long) place,
                     q .stage i place,
                   )
                   (summary-entered (c .card) (c .history) s inside (l .stages i) low)
-              | no e ↦ rw (ne-eqb j i e) (getD-set-other (w .stages) i j _ noStage e ∙ q .stage j b)
+              | no e ↦ rw (ne-eqb j i e) (stage-with-other (w .stages) i _ j e ∙ q .stage j b)
             ]
 
         enter-aside :
@@ -180,12 +181,12 @@ module _ (c : Scene) where
         enter-follows :
             Follows (suc n) (entering i s l)
             (record {
-              stages = set (w .stages) i (entered (c .card .key) old (mark s));
+              stages = withStage (w .stages) i (entered (c .card .key) old (mark s));
               answer = cond aside (withSet (allButLast old) (w .answer)) (w .answer);
             })
         enter-follows =
             record {
-              long = length-set (w .stages) i _ ∙ q .long;
+              long = whole-with (w .stages) i _ (q .long);
               stage = enter-stage;
               room = with-room aside (allButLast old) (w .answer) ∙ q .room;
               few = omega (arith, with-few aside (allButLast old) (w .answer));

@@ -25,7 +25,9 @@ module _ (key : Key) (p : List ℕ) (short : length p ≤ maxLength) (h : List �
   verdicts =
       record {
         size = refl;
-        matches = λ i s k l. ap (λ (f : Fingerprint). same (fp key (block h s (prefixLength (length p) i))) f) (card-prints key p short i k);
+        matches =
+            λ i s k l.
+            ap (λ (f : Fingerprint). same (fp key (block h s (prefixLength (length p) i))) f) (card-prints key p short i k);
         alike = λ s u n a b. refl;
       }
 

@@ -7,18 +7,17 @@ use mathlib.Core.Logic.{inl, inr}
 use mathlib.Core.Bool.{true}
 use mathlib.Core.List.{List, [], _∷_}
 use native.Mathlib.Omega.{arith}
-use lib.ListN.{length, getD}
+use lib.ListN.{length}
 use Rattle.fingerprint.specs.declared.Key.{Key}
 use Rattle.ladder.specs.Ladder as ladder
 use Rattle.ladder.proofs.Starts.{Has, Ascending}
 use Rattle.ladder.proofs.Stages.{after-staged}
-use Rattle.lists.proofs.Laws.{getD-tabulate}
 use Rattle.signature.specs.declared.Signature.{Signature}
 use Rattle.signature.specs.Signature.{signatureFits}
 use Rattle.signature.proofs.Card.{sound-card}
 use Rattle.stage.specs.declared.Stage.{Stage}
-use Rattle.stage.specs.Stages.{stageCount}
-use Rattle.stage.specs.Stage.{noStage}
+use Rattle.stage.specs.Stages.{stageCount, stageAt}
+use Rattle.stage.proofs.Stages.{stage-of}
 use Rattle.stage.specs.Stage.{forward, alone, takenOff}
 use Rattle.refinement.specs.Refinement.{cardTests, summary, watchOf}
 use Rattle.refinement.proofs.Summary.{forward-to}
@@ -42,11 +41,11 @@ module _ (card : Signature) (card-fits : signatureFits card ≡ true) (h : List 
 
   -- Stage i of the watch of a history. (A byte's walk visits stage i before a start enters it: it takes off from this stage.)
   abbrev pub stage : Stage
-  stage = getD (watchOf card h .stages) i noStage
+  stage = stageAt (watchOf card h .stages) i
 
   stored : stage ≡ summary key h (ladder.after (cardTests card) h (length h) i)
   unfolding watchOf
-  stored = getD-tabulate _ stageCount i noStage place
+  stored = stage-of _ i place
 
   -- Where two starts are listed, the first moved by the step, with the step print joined to F_first, is the last with F_last.
   pub first-moved : stage .held ≡ 2 → forward (card .key) (stage .first) (stage .step) ≡ stage .last

@@ -2,33 +2,32 @@
 -- longer history, and the answer reads as the ladder's.
 -- Assumes nothing.
 use Prim.Native.Nat.{ℕ, suc, _+_, _≤_, _<_}
-use mathlib.Core.Path.{_≡_, refl, sym, _∙_, ap}
+use mathlib.Core.Path.{_≡_, sym, _∙_, ap}
 use mathlib.Core.Bool.{true}
 use mathlib.Core.List.{List, [], _∷_, _++_}
 use native.Mathlib.Numerals.{add-one}
 use native.Mathlib.Omega.{arith}
-use lib.ListN.{length, getD, take, length-append}
+use lib.ListN.{length, take, length-append}
 use lib.Seq.{take-length, take-all}
-use borrow.Author.Tests.{eqb-true, eq-eqb, lt-ltb}
+use borrow.Author.Tests.{lt-ltb}
 use Rattle.fingerprint.specs.declared.Key.{Key}
 use Rattle.fingerprint.specs.declared.Fingerprint.{Fingerprint}
-use Rattle.fingerprint.specs.Fingerprint.{fp}
-use Rattle.fingerprint.proofs.Laws.{fp-push}
+use Rattle.fingerprint.specs.Fingerprint.{agreeUnder}
+use Rattle.fingerprint.proofs.Laws.{fp-push, agree-self, agree-back, agree-on}
 use Rattle.ladder.specs.Ladder as ladder
 use Rattle.ladder.proofs.Levels.{levels-bound}
 use Rattle.ladder.proofs.Grow.{after-append}
 use Rattle.ladder.proofs.Stages.{after-staged}
 use Rattle.ladder.proofs.Even.{after-even}
 use Rattle.ladder.proofs.Gaps.{Equivalence, after-alike}
-use Rattle.lists.specs.Lists.{tabulate}
-use Rattle.lists.proofs.Laws.{length-tabulate, getD-tabulate, tabulated}
 use Rattle.signature.specs.declared.Signature.{Signature}
 use Rattle.signature.specs.Signature.{signatureFits}
-use Rattle.stage.specs.Stage.{maxTaken, noStage}
-use Rattle.stage.specs.Stages.{stageCount}
+use Rattle.stage.specs.Stage.{maxTaken}
+use Rattle.stage.specs.Stages.{stageCount, stageAt, stagesOf}
+use Rattle.stage.proofs.Stages.{stages-same, whole-of, stage-of}
 use Rattle.matcher.specs.Stroke.{nextMark, walkedFrom, walked, strokeRefusal, strokeAnswer}
 use Rattle.matcher.specs.declared.Walk.{Walk}
-use Rattle.refinement.specs.Refinement.{agreeUnder, cardTests, markIn, summary, watchOf, Refines}
+use Rattle.refinement.specs.Refinement.{cardTests, markIn, summary, watchOf, Refines}
 use Rattle.signature.proofs.Card.{SoundCard, sound-card}
 use Rattle.refinement.proofs.Summary.{mark-grown, summary-grown}
 use Rattle.refinement.proofs.Follow.{Scene, top, Follows}
@@ -37,22 +36,8 @@ use Rattle.matcher.proofs.Sound.{after-taken}
 use Rattle.refinement.proofs.WatchFits.{fits}
 
 -- To have one fingerprint is an equivalence.
-module _ (key : Key) where
-  abbrev value : List ℕ → ℕ
-  value u = fp key u .value
-
-  pub agree-same : (u : List ℕ) → agreeUnder key u u ≡ true
-  agree-same u = eq-eqb (value u) (value u) refl
-
-  by-print : Equivalence (agreeUnder key)
-  by-print =
-      record {
-        self = agree-same;
-        back = λ u v e. eq-eqb (value v) (value u) (sym (eqb-true (value u) (value v) e));
-        on =
-            λ u v x e f.
-            eq-eqb (value u) (value x) (eqb-true (value u) (value v) e ∙ eqb-true (value v) (value x) f);
-      }
+by-print : (key : Key) → Equivalence (agreeUnder key)
+by-print key = record { self = agree-self key; back = agree-back key; on = agree-on key }
 
 module _ (card : Signature) (card-fits : signatureFits card ≡ true) where
   abbrev key : Key
@@ -95,10 +80,10 @@ module _ (card : Signature) (card-fits : signatureFits card ≡ true) where
         }
 
     -- The watch stores the same of the longer history's first bytes.
-    stored-before : (i : ℕ) → i < stageCount → getD (watchOf card h .stages) i noStage ≡ summary key grown (before i)
+    stored-before : (i : ℕ) → i < stageCount → stageAt (watchOf card h .stages) i ≡ summary key grown (before i)
     unfolding watchOf
     stored-before i l =
-        getD-tabulate _ stageCount i noStage l
+        stage-of _ i l
         ∙ ap (λ (s : ladder.Stages). summary key h (s i)) (sym (after-append tests h (b ∷ []) (length h) (omega arith)))
         ∙ sym (summary-grown key h (b ∷ []) (before i) (λ s r. omega (arith, upon .ok .aged i .old s r)))
 
@@ -118,7 +103,7 @@ module _ (card : Signature) (card-fits : signatureFits card ≡ true) where
     unfolding walkedFrom watchOf
     walked-follows =
         rw (next-mark, ← mark-grown key h (b ∷ []) (length h) (omega arith))
-        (step-follows scene before upon (sound .long) _ (length-tabulate _ stageCount) stored-before)
+        (step-follows scene before upon (sound .long) _ (whole-of _) stored-before)
 
     -- That step leads to what the ladder lists after the byte, and to its answer.
     stepped-after : stepped .stages ≡ ladder.after tests grown (length grown)
@@ -131,10 +116,13 @@ module _ (card : Signature) (card-fits : signatureFits card ≡ true) where
 
     stages-after :
         walked (watchOf card h) b .stages
-        ≡ tabulate (λ i. summary key grown (ladder.after tests grown (length grown) i)) stageCount
+        ≡ stagesOf (λ i. summary key grown (ladder.after tests grown (length grown) i))
     stages-after =
-        tabulated _ stageCount noStage _ (walked-follows .long)
-        (λ i l. walked-follows .stage i l ∙ ap (λ (s : ladder.Stages). summary key grown (s i)) stepped-after)
+        stages-same _ _ (walked-follows .long) (whole-of _)
+        (λ i l.
+        walked-follows .stage i l
+        ∙ ap (λ (s : ladder.Stages). summary key grown (s i)) stepped-after
+        ∙ sym (stage-of _ i l))
 
     accepted : length h < maxTaken → strokeRefusal (watchOf card h) ≡ 0
     unfolding watchOf

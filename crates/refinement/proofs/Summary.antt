@@ -8,11 +8,11 @@ use mathlib.Core.List.{List, [], _∷_, _++_, map}
 use native.Mathlib.Omega.{arith}
 use lib.ListN.{length, take, drop, length-append, length-drop}
 use lib.Seq.{take-add, take-append-le, drop-append-le}
-use borrow.Author.Tests.{eqb-true, ne-eqb, lt-ltb}
+use borrow.Author.Tests.{ne-eqb, lt-ltb}
 use Rattle.fingerprint.specs.declared.Key.{Key}
 use Rattle.fingerprint.specs.declared.Fingerprint.{Fingerprint}
-use Rattle.fingerprint.specs.Fingerprint.{fp, joined}
-use Rattle.fingerprint.proofs.Laws.{by-value, fp-join, fp-cut}
+use Rattle.fingerprint.specs.Fingerprint.{fp, joined, agreeUnder}
+use Rattle.fingerprint.proofs.Laws.{same-eq, fp-join, fp-cut}
 use Rattle.ladder.specs.Prefix.{block}
 use Rattle.ladder.specs.Ladder as ladder
 use Rattle.ladder.proofs.Blocks.{block-length}
@@ -21,11 +21,10 @@ use Rattle.ladder.proofs.Even.{Even}
 use Rattle.ladder.proofs.Gaps.{Alike}
 use Rattle.signature.specs.declared.Signature.{Signature}
 use Rattle.stage.specs.declared.Gap.{Gap}
-use Rattle.stage.specs.Stage.{sameGap}
-use Rattle.stage.specs.Stage.{alone, gapTo, forward, takenOff, entered, setsAside, allButLast}
+use Rattle.stage.specs.Stage.{sameGap, alone, gapTo, forward, takenOff, entered, setsAside, allButLast}
 use Rattle.lists.proofs.Cases.{by-test}
 use Rattle.stage.proofs.Fit.{stage-by}
-use Rattle.refinement.specs.Refinement.{agreeUnder, cardTests, markIn, summary, readSet}
+use Rattle.refinement.specs.Refinement.{cardTests, markIn, summary, readSet}
 
 last-snoc : (x : ℕ) (xs : List ℕ) (z : ℕ) → ladder.lastOf x (xs ++ z ∷ []) ≡ z
 unfolding ladder.lastOf
@@ -74,7 +73,7 @@ module _ (key : Key) (h : List ℕ) where
   next-gap x y z zs e a =
       let d : y - x ≡ z - y = omega arith in
       let f : fp key (block h x (y - x)) ≡ fp key (block h y (z - y)) =
-      subst (λ n. fp key (block h x (y - x)) ≡ fp key (block h y n)) d (sym (by-value _ _ (eqb-true _ _ (a .1 .0))))
+      subst (λ n. fp key (block h x (y - x)) ≡ fp key (block h y n)) d (sym (same-eq _ _ (a .1 .0)))
       in
       λ i. record { length = d i; print = f i }
 

@@ -9,9 +9,9 @@ use mathlib.Core.Option.{none}
 use native.Mathlib.Decide.{ℕ-discrete}
 use native.Mathlib.Omega.{arith}
 use lib.Dec.{eqb}
-use lib.ListN.{length, getD, set, length-set}
-use lib.Seq.{getD-set-same, getD-set-other}
+use lib.ListN.{length}
 use borrow.Author.Tests.{eq-eqb, ne-eqb}
+use Rattle.fingerprint.specs.Fingerprint.{agreeUnder}
 use Rattle.ladder.specs.Prefix.{block}
 use Rattle.ladder.specs.Ladder as ladder
 use Rattle.ladder.proofs.Byte.{Byte, rest, due, tested}
@@ -22,12 +22,12 @@ use Rattle.ladder.proofs.Aged.{Staged}
 use Rattle.ladder.proofs.Visited.{Met, Kept, Taken, rest-view, rest-has, due-tested, tried-at}
 use Rattle.ladder.proofs.Even.{Even}
 use Rattle.ladder.proofs.Gaps.{Alike}
-use Rattle.stage.specs.declared.Stage.{Stage}
-use Rattle.stage.specs.Stage.{noStage, takenOff}
-use Rattle.stage.specs.Stages.{stageCount}
+use Rattle.stage.specs.Stage.{takenOff}
+use Rattle.stage.specs.Stages.{stageCount, Stages, Whole, stageAt, withStage}
+use Rattle.stage.proofs.Stages.{stage-with-same, stage-with-other, whole-with}
 use Rattle.matcher.specs.Stroke.{tried, ripe, visited, descended, noAnswer}
 use Rattle.matcher.specs.declared.Walk.{Walk}
-use Rattle.refinement.specs.Refinement.{agreeUnder, cardTests, summary}
+use Rattle.refinement.specs.Refinement.{cardTests, summary}
 use Rattle.lists.proofs.Cases.{by-test}
 use Rattle.refinement.proofs.Summary.{summary-held, summary-first, summary-off}
 use Rattle.refinement.proofs.Follow.{Scene, round, top, size, mark, stored, comparing, Follows, more-follows, compare-follows}
@@ -90,7 +90,7 @@ module _ (c : Scene) (stages : ladder.Stages) (u : Upon c stages) where
     place : i < stageCount
     place = omega (arith, c .small)
 
-    held : getD (w .stages) i noStage ≡ stored c (stages i)
+    held : stageAt (w .stages) i ≡ stored c (stages i)
     held = q .follows .stage i place ∙ ap (stored c) listed
 
     -- no start is ripe
@@ -113,17 +113,17 @@ module _ (c : Scene) (stages : ladder.Stages) (u : Upon c stages) where
 
     off-follows :
         (xs : List ℕ)
-        → Follows c (top c - suc (suc i)) (lesser xs) (record { stages = set (w .stages) i (stored c xs); answer = w .answer })
+        → Follows c (top c - suc (suc i)) (lesser xs) (record { stages = withStage (w .stages) i (stored c xs); answer = w .answer })
     off-follows xs =
         record {
-          long = length-set (w .stages) i _ ∙ q .follows .long;
+          long = whole-with (w .stages) i _ (q .follows .long);
           stage =
               λ j o.
               elim (ℕ-discrete j i) [
                 | yes e ↦
                     rw (e, eq-eqb i i refl)
-                    (getD-set-same (w .stages) i (stored c xs) noStage (omega (arith, q .follows .long, place)))
-                | no e ↦ rw (ne-eqb j i e) (getD-set-other (w .stages) i j _ noStage e ∙ q .follows .stage j o)
+                    (stage-with-same (w .stages) i (stored c xs) (q .follows .long) place)
+                | no e ↦ rw (ne-eqb j i e) (stage-with-other (w .stages) i _ j e ∙ q .follows .stage j o)
               ];
           room = q .follows .room;
           few = q .follows .few;
@@ -184,9 +184,9 @@ module _ (c : Scene) (stages : ladder.Stages) (u : Upon c stages) where
   -- A watch that stores the summaries of the stages before the byte stores those after it, and answers as the ladder does.
   module _
       (long : 1 ≤ c .card .length)
-      (before : List Stage)
-      (many : length before ≡ stageCount)
-      (each : (j : ℕ) → j < stageCount → getD before j noStage ≡ stored c (stages j))
+      (before : Stages)
+      (many : Whole before)
+      (each : (j : ℕ) → j < stageCount → stageAt before j ≡ stored c (stages j))
     where
       abbrev begin : ladder.Walk
       begin = record { stages = stages; answer = record { ring = none; aside = []; comparisons = 0 } }

@@ -1,7 +1,7 @@
 -- The watch of a history over a card that is no misfit is none, and that of no bytes is the fresh one.
 -- Assumes nothing.
 use Prim.Native.Nat.{ℕ, suc, _<_}
-use mathlib.Core.Path.{_≡_, refl, _∙_}
+use mathlib.Core.Path.{_≡_, refl, sym, _∙_}
 use mathlib.Core.Logic.{inl, inr}
 use mathlib.Core.Bool.{true}
 use mathlib.Core.List.{List, [], _∷_}
@@ -19,12 +19,10 @@ use Rattle.ladder.proofs.Starts.{has-last}
 use Rattle.ladder.proofs.Aged.{Aged}
 use Rattle.ladder.proofs.Stages.{after-staged}
 use Rattle.ladder.proofs.Even.{Even, even-last, after-even}
-use Rattle.lists.specs.Lists.{tabulate}
-use Rattle.lists.proofs.Laws.{getD-tabulate}
 use Rattle.signature.specs.declared.Signature.{Signature}
 use Rattle.signature.specs.Signature.{signatureFits}
-use Rattle.stage.specs.Stages.{stageCount}
-use Rattle.stage.specs.Stage.{noStage}
+use Rattle.stage.specs.Stages.{noStages}
+use Rattle.stage.proofs.Stages.{stages-same, whole-none, no-stage-at, whole-of, stage-of}
 use Rattle.matcher.specs.Matcher.{matcherFits, freshRefusal, blank, fresh}
 use Rattle.refinement.specs.Refinement.{cardTests, summary, watchOf}
 use Rattle.stage.proofs.Fit.{Fit, idle, single, several}
@@ -71,8 +69,12 @@ summary-fit key h m i t (x ∷ y ∷ more) a e =
 
 -- Before any byte: "a fresh one has t = 0, F_t = 0 and nothing listed".
 start : (card : Signature) → blank card ≡ watchOf card []
-unfolding watchOf tabulate summary ladder.after extended
-start card = refl
+unfolding watchOf summary ladder.after extended
+start card =
+    let stages : noStages ≡ watchOf card [] .stages =
+    stages-same noStages _ whole-none (whole-of _) (λ i l. no-stage-at i ∙ sym (stage-of _ i l))
+    in
+    λ j. record { signature = card; now = watchOf card [] .now; stages = stages j }
 
 module _ (card : Signature) (card-fits : signatureFits card ≡ true) where
   sound : SoundCard card
@@ -83,13 +85,11 @@ module _ (card : Signature) (card-fits : signatureFits card ≡ true) where
   fits h =
       sound-fits (watchOf card h) (record {
         card = card-fits;
-        long = sound .long;
-        short = sound .short;
         print = fp-below (card .key) (take (length h) h);
         starts = λ z. rw z;
         stage =
             λ i l.
-            rw (getD-tabulate (λ i. summary (card .key) h (ladder.after (cardTests card) h (length h) i)) stageCount i noStage l)
+            rw (stage-of (λ i. summary (card .key) h (ladder.after (cardTests card) h (length h) i)) i l)
             (summary-fit (card .key) h (card .length) i (length h) _
             (after-staged (cardTests card) h (sound .long) (length h) (omega arith) .aged i)
             (after-even (cardTests card) h (sound .long) (length h) (omega arith) i));

@@ -1,15 +1,13 @@
 -- What a watch stores of a history, and how its answers read as those of the ladder with unlimited lists.
 use Prim.Native.Nat.{ℕ, suc, _+_, _-_}
 use mathlib.Core.Path.{_≡_}
-use mathlib.Core.Bool.{Bool}
 use mathlib.Core.List.{List, [], _∷_, _++_, map}
 use mathlib.Core.Option.{Option, none, some}
 use lib.ListN.{length, take, getD}
 use Rattle.fingerprint.specs.declared.Key.{Key}
-use Rattle.fingerprint.specs.Fingerprint.{same, empty, fp}
+use Rattle.fingerprint.specs.Fingerprint.{same, empty, fp, agreeUnder}
 use Rattle.ladder.specs.Prefix.{block}
 use Rattle.ladder.specs.Ladder as ladder
-use Rattle.lists.specs.Lists.{tabulate}
 use Rattle.signature.specs.declared.Signature.{Signature}
 use Rattle.stage.specs.declared.Mark.{Mark}
 use Rattle.stage.specs.declared.Stage.{Stage}
@@ -18,14 +16,9 @@ use Rattle.matcher.specs.declared.Ring.{Ring}
 use Rattle.matcher.specs.declared.Ring.the-variants.{Silent, At}
 use Rattle.stage.specs.declared.Progression.{Progression}
 use Rattle.matcher.specs.declared.Answer.{Answer}
-use Rattle.stage.specs.Stages.{stageCount}
-use Rattle.stage.specs.Stage.{noStage}
-use Rattle.stage.specs.Stage.{alone}
+use Rattle.stage.specs.Stages.{stagesOf}
+use Rattle.stage.specs.Stage.{noStage, alone}
 use Rattle.matcher.specs.Stroke.{strokeRefusal, strokeAnswer, afterStroke}
-
--- The ladder's test of two blocks: whether their fingerprints under the key are equal.
-abbrev pub agreeUnder : Key → List ℕ → List ℕ → Bool
-agreeUnder key u v = same (fp key u) (fp key v)
 
 -- A place in a history, with the fingerprint of the bytes before it.
 abbrev pub markIn : Key → List ℕ → ℕ → Mark
@@ -63,7 +56,7 @@ watchOf card h =
     record {
       signature = card;
       now = markIn (card .key) h (length h);
-      stages = tabulate (λ i. summary (card .key) h (ladder.after (cardTests card) h (length h) i)) stageCount;
+      stages = stagesOf (λ i. summary (card .key) h (ladder.after (cardTests card) h (length h) i));
     }
 
 -- "Whether a start rang, and which": document 01's value for every case.

@@ -131,7 +131,8 @@ module _ {key : Key} {p : List ℕ} {card : Signature} (c : CardOf key p card) w
       elim (decLt n maxTaken) [
         | yes l ↦
             one-taken calls w h n total run size byte bytes l
-            (goes bytes (calls ++ stroke core byte ∷ []) (afterStroke w byte) (h ++ entry w byte ∷ []) (suc n) (total + strokeAnswer w byte .comparisons)
+            (goes bytes (calls ++ stroke core byte ∷ []) (afterStroke w byte) (h ++ entry w byte ∷ []) (suc n)
+            (total + strokeAnswer w byte .comparisons)
             (λ i k. all (suc i) (omega arith))
             (takes core byte (all 0 (omega arith)) run (every-stroke-taken c run (omega (arith, length-bytes h))))
             (length-append h (entry w byte ∷ []) ∙ omega arith))
@@ -159,7 +160,8 @@ printed key p input accepted card all =
           rw accepted
           (q .lines
           ∙ ap (λ (lines : List ℕ). linesFrom 0 (q .more) ++ lines)
-          (closing-same (0 + length stream) (length stream) (0 + length (q .more)) (length (q .more)) (0 + totalOf (q .more)) (totalOf (q .more))
+          (closing-same (0 + length stream) (length stream) (0 + length (q .more)) (length (q .more))
+          (0 + totalOf (q .more)) (totalOf (q .more))
           (omega arith) (omega arith) (omega arith)));
       claim = whole-run key p (readSignature (front input)) card (q .run);
     }

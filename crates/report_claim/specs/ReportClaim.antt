@@ -6,11 +6,11 @@ use mathlib.Core.List.{List, [], _∷_, _++_}
 use lib.Dec.{leb}
 use lib.ListN.{length, take, drop}
 use Rattle.fingerprint.specs.declared.Key.{Key}
+use Rattle.fingerprint.specs.Fingerprint.{agreeUnder}
 use Rattle.ladder.specs.Claim.{Claim}
 use Rattle.matcher.specs.declared.Matcher.{Matcher}
 use Rattle.stage.specs.Stage.{maxTaken}
 use Rattle.record.specs.Calls.{readSignature, readTaken}
-use Rattle.refinement.specs.Refinement.{agreeUnder}
 use Rattle.whole_run.specs.History.{History, bytesOf, answersOf}
 use Rattle.whole_run.specs.Run.{Call, Run}
 use Rattle.whole_run.specs.Strokes.{totalOf}
@@ -22,8 +22,8 @@ abbrev pub linesFrom : ℕ → History → List ℕ
 linesFrom n [] = []
 linesFrom n (x ∷ h) = reportLines (suc n) (x .answer) ++ linesFrom (suc n) h
 
--- What stands last, of a stream of so many bytes: "`X number` for a refusal, which ends reading", 6 for a byte past those that a watch takes,
--- and "last `E t total`".
+-- What stands last, of a stream of so many bytes: "`X number` for a refusal, which ends reading", 6 for a byte past those that a watch
+-- takes, and "last `E t total`".
 abbrev pub closing : ℕ → ℕ → ℕ → List ℕ
 closing many t total = cond (leb many maxTaken) [] (lineX 6) ++ lineE t total
 

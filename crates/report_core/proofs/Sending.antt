@@ -19,7 +19,7 @@ use Rattle.signature.specs.declared.Signature.{Signature}
 use Rattle.signature.specs.Signature.{signatureFits}
 use Rattle.matcher.proofs.FreshFits.{fresh-fits}
 use Rattle.ladder.specs.Prefix.{levels}
-use Rattle.record.specs.Layout.{wordAt, lengthField, signatureKind, signatureLength, signatureAt}
+use Rattle.record.specs.Layout.{lengthField, patternLength, signatureKind, signatureLength, signatureAt}
 use Rattle.record.specs.Calls.{headRefusal, signatureLeast, signatureSuits, readRefusal, readSignature, readTaken}
 use Rattle.report_core.specs.declared.Begun.{Begun}
 use Rattle.report_core.specs.declared.Progress.{Progress}
@@ -79,7 +79,7 @@ module _ (s : List ℕ) where
   unfolding readRefusal readSignature
   read-fits e =
       by-test (signatureSuits s)
-      (λ f. rw (accepted-head e, f) (and-right (eqb (lengthField s) (signatureLength (levels (wordAt s 6)))) (signatureFits (signatureAt s)) f))
+      (λ f. rw (accepted-head e, f) (and-right (eqb (lengthField s) (signatureLength (levels (patternLength s)))) (signatureFits (signatureAt s)) f))
       (λ f. absurd (omega (arith, rw (accepted-head e, f) at e)))
 
 -- t is 0 at a fresh watch

@@ -15,12 +15,13 @@ use report_lines::ROOM;
 use report_lines::put_end;
 use report_lines::put_refusal;
 use report_lines::put_report;
+use stage::STAGES;
 
 // The longest card record.
 pub const CARD_BYTES: usize = 98;
 
 // The most comparisons at one byte.
-const MOST_COMPARISONS: u64 = 21;
+const MOST_COMPARISONS: u64 = STAGES as u64 + 1;
 
 // The room that a buffer must have for the last lines: they are two at the most, each with the room of one byte's lines.
 const LAST_ROOM: usize = 2 * ROOM;

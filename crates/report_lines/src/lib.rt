@@ -20,12 +20,10 @@ ghost use Rattle.report_lines.specs.Stored.{mostItem, mostNumbers, mostL
 use matcher::Answer;
 use matcher::Ring;
 use stage::Progression;
+use stage::STAGES;
 
 // The room that a buffer must have from the place on, whatever is to be put there: the lines of one byte are never longer.
 pub const ROOM: usize = 2048;
-
-// The sets that an answer has places for: one for each place of a stage.
-const SETS: usize = 20;
 
 // Where the next line goes, or that the buffer has too little room and is as it was.
 pub enum Put {
@@ -91,15 +89,15 @@ fn has_room(size: usize, at: usize) -> bool
     at <= size - ROOM
 }
 
-// How many sets of an answer count.
+// How many sets of an answer count: there is a place for one of each stage.
 fn counted(asides: u32) -> usize
     ensures { λ n. ⌜ n ≡ min asides stageCount ⌝ }
 {
     let n = asides as usize;
-    if n < SETS {
+    if n < STAGES {
         return n;
     }
-    SETS
+    STAGES
 }
 
 // The lines of the answer to byte t, at a place of the buffer.

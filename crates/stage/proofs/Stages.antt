@@ -6,9 +6,10 @@ use native.Mathlib.Decide.{decLt}
 use native.Mathlib.Omega.{arith}
 use lib.ListN.{length, getD, length-set, length-replicate, getD-replicate, List·getD-eq-default}
 use lib.Seq.{getD-set-same, getD-set-other, set-out, ext-getD}
+use Rattle.lists.proofs.Laws.{length-tabulate, getD-tabulate}
 use Rattle.stage.specs.declared.Stage.{Stage}
 use Rattle.stage.specs.Stage.{noStage}
-use Rattle.stage.specs.Stages.{stageCount, Stages, Whole, stageAt, withStage, noStages}
+use Rattle.stage.specs.Stages.{stageCount, Stages, Whole, stageAt, withStage, stagesOf, noStages}
 
 module _ (l : Stages) (i : ℕ) (s : Stage) where
   pub stage-with-same : Whole l → i < stageCount → stageAt (withStage l i s) i ≡ s
@@ -37,6 +38,13 @@ stage-past l i w h = List·getD-eq-default l noStage {n = i} (omega arith)
 -- stages that are the same at each number are the same
 pub stages-same : (l k : Stages) → Whole l → Whole k → ((i : ℕ) → i < stageCount → stageAt l i ≡ stageAt k i) → l ≡ k
 stages-same l k u w e = ext-getD noStage l k (u ∙ sym w) (λ i h. e i (omega arith))
+
+-- stages made of one for each number
+pub whole-of : (f : ℕ → Stage) → Whole (stagesOf f)
+whole-of f = length-tabulate f stageCount
+
+pub stage-of : (f : ℕ → Stage) (i : ℕ) → i < stageCount → stageAt (stagesOf f) i ≡ f i
+stage-of f i h = getD-tabulate f stageCount i noStage h
 
 pub whole-none : Whole noStages
 whole-none = length-replicate stageCount noStage

@@ -4,7 +4,7 @@ use mathlib.Core.Path.{_≡_}
 use mathlib.Core.Bool.{Bool}
 use mathlib.Core.List.{List}
 use lib.ListN.{length, getD, set, replicate}
-use Rattle.lists.specs.Lists.{every}
+use Rattle.lists.specs.Lists.{every, tabulate}
 use Rattle.stage.specs.declared.Stage.{Stage}
 use Rattle.stage.specs.Stage.{noStage, stageFits}
 
@@ -26,6 +26,10 @@ stageAt stages i = getD stages i noStage
 -- the same stages, but for stage i
 abbrev pub withStage : Stages → ℕ → Stage → Stages
 withStage stages i s = set stages i s
+
+-- the stages that have these at their numbers
+abbrev pub stagesOf : (ℕ → Stage) → Stages
+stagesOf f = tabulate f stageCount
 
 -- "nothing listed"
 abbrev pub noStages : Stages

@@ -6,6 +6,7 @@ use fingerprint::Key;
 use naive_search::print_of;
 use refusal::Verdict;
 use signature::Builder;
+use signature::Finished;
 use signature::Signature;
 
 // Whether a call was accepted.
@@ -13,24 +14,25 @@ pub(crate) fn accepted(verdict: Verdict) -> bool {
     verdict.number() == 0
 }
 
-// The card of a pattern, by the maker's calls, none of which is refused.
-pub(crate) fn make(pattern: &[u8], key: u32, tally: &mut [u32]) -> Signature {
-    let begun = Builder::begin(short(pattern.len()), Key { r: key });
-    let verdict = begun.verdict;
-    expect(tally, accepted(verdict));
+// The card of a pattern, as the maker finishes it; a refusal of any call before shows in its verdict.
+fn finished(pattern: &[u8], key: u32) -> Finished {
+    let begun = Builder::begin(short(pattern.len()), Key::new(key));
     let mut builder = begun.builder;
     let mut i: usize = 0;
     while i < pattern.len() {
         let pushed = builder.push(pattern[i]);
-        let verdict = pushed.verdict;
-        expect(tally, accepted(verdict));
         builder = pushed.builder;
         i = i + 1;
     }
-    let finished = builder.finish();
-    let verdict = finished.verdict;
+    builder.finish()
+}
+
+// The card of a pattern, by the maker's calls, none of which is refused.
+pub(crate) fn make(pattern: &[u8], key: u32, tally: &mut [u32]) -> Signature {
+    let made = finished(pattern, key);
+    let verdict = made.verdict;
     expect(tally, accepted(verdict));
-    finished.signature
+    made.signature
 }
 
 // The length of the prefix behind one of `size` bytes, for a pattern of m bytes: twice as much, at most the whole; 0 behind the last.
@@ -47,12 +49,12 @@ fn next_size(size: usize, m: usize) -> usize {
 // Whether a card has the pattern's length, the key and the fingerprints of its prefixes, and 0 past them.
 pub(crate) fn is_card_of(signature: Signature, pattern: &[u8], key: u32) -> bool {
     let prints = signature.prints;
-    let mut same = signature.length == short(pattern.len()) && signature.key.r == key;
+    let mut same = signature.length == short(pattern.len()) && signature.key.number() == key;
     let mut size: usize = 1;
     let mut i: usize = 0;
     while i < 21 {
         let print = prints[i];
-        same = same && print.value == print_of(front(pattern, size), key);
+        same = same && print.number() == print_of(front(pattern, size), key);
         size = next_size(size, pattern.len());
         i = i + 1;
     }

@@ -1,9 +1,10 @@
 // Whether two values are equal, field by field.
+use crate::cards::accepted;
 use fingerprint::Fingerprint;
 use matcher::Answer;
 use matcher::Matcher;
 use matcher::Ring;
-use signature::Builder;
+use matcher::Stroke;
 use signature::Signature;
 use stage::Gap;
 use stage::Mark;
@@ -11,11 +12,11 @@ use stage::Progression;
 use stage::Stage;
 
 fn same_mark(a: Mark, b: Mark) -> bool {
-    a.at == b.at && a.print.value == b.print.value
+    a.at == b.at && a.print.equals(b.print)
 }
 
 fn same_gap(a: Gap, b: Gap) -> bool {
-    a.length == b.length && a.print.value == b.print.value
+    a.length == b.length && a.print.equals(b.print)
 }
 
 fn same_stage(a: Stage, b: Stage) -> bool {
@@ -29,7 +30,7 @@ fn same_prints(a: [Fingerprint; 21], b: [Fingerprint; 21]) -> bool {
     while i < 21 {
         let x = a[i];
         let y = b[i];
-        same = same && x.value == y.value;
+        same = same && x.equals(y);
         i = i + 1;
     }
     same
@@ -50,14 +51,7 @@ fn same_stages(a: [Stage; 20], b: [Stage; 20]) -> bool {
 pub(crate) fn same_signature(a: Signature, b: Signature) -> bool {
     let x = a.prints;
     let y = b.prints;
-    a.length == b.length && a.key.r == b.key.r && same_prints(x, y)
-}
-
-pub(crate) fn same_builder(a: Builder, b: Builder) -> bool {
-    let x = a.prints;
-    let y = b.prints;
-    let same_head = a.length == b.length && a.key.r == b.key.r;
-    same_head && a.taken == b.taken && a.print.value == b.print.value && same_prints(x, y)
+    a.length == b.length && a.key.equals(b.key) && same_prints(x, y)
 }
 
 pub(crate) fn same_matcher(a: Matcher, b: Matcher) -> bool {
@@ -97,4 +91,12 @@ pub(crate) fn same_answer(a: Answer, b: Answer) -> bool {
     let other = b.ring;
     let same_ring = ring_number(heard) == ring_number(other);
     same_ring && a.asides == b.asides && a.comparisons == b.comparisons && same_sets(x, y)
+}
+
+// Whether two strokes were both accepted, answer alike and leave the same watch.
+pub(crate) fn alike(a: Stroke, b: Stroke) -> bool {
+    let verdict = a.verdict;
+    let other = b.verdict;
+    let same = same_answer(a.answer, b.answer) && same_matcher(a.matcher, b.matcher);
+    same && accepted(verdict) && accepted(other)
 }

@@ -9,8 +9,7 @@ use crate::bytes::short;
 use crate::cards::accepted;
 use crate::cards::is_card_of;
 use crate::cards::make;
-use crate::compare::same_answer;
-use crate::compare::same_matcher;
+use crate::compare::alike;
 use crate::generator::fill_stream;
 use crate::print::item;
 use crate::print::words;
@@ -75,12 +74,7 @@ fn strike(
 ) -> Matcher {
     let byte = at(stream, minus(stream.len(), 1));
     let core = w.stroke(byte);
-    let thin = in_place::stroke_local(w, byte);
-    let verdict = core.verdict;
-    let other = thin.verdict;
-    expect(tally, accepted(verdict) && accepted(other));
-    expect(tally, same_answer(core.answer, thin.answer));
-    expect(tally, same_matcher(core.matcher, thin.matcher));
+    expect(tally, alike(core, in_place::stroke_local(w, byte)));
     account(core.answer, stream, pattern, key, marks, tally);
     core.matcher
 }

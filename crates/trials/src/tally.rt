@@ -59,6 +59,12 @@ pub(crate) fn expect(tally: &mut [u32], holds: bool) {
     }
 }
 
+// Counts one, and a failure where a check of it does not hold.
+pub(crate) fn tick(tally: &mut [u32], i: usize, holds: bool) {
+    expect(tally, holds);
+    add(tally, i, 1);
+}
+
 // The digest with one number more.
 fn mixed(digest: u32, value: u32) -> u32 {
     (((digest as u64) * 65599 + (value as u64)) % 4294967291) as u32

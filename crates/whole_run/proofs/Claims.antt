@@ -8,11 +8,12 @@ use mathlib.Core.List.{List}
 use native.Mathlib.Omega.{arith}
 use lib.ListN.{length}
 use Rattle.fingerprint.specs.declared.Key.{Key}
+use Rattle.fingerprint.specs.Fingerprint.{agreeUnder}
+use Rattle.fingerprint.proofs.Laws.{agree-self}
 use Rattle.ladder.specs.Ladder.{Answer, answerAt}
 use Rattle.ladder.specs.Claim.{Claim}
 use Rattle.ladder.proofs.Theorem.{ladder-claim}
-use Rattle.refinement.specs.Refinement.{agreeUnder, passageTests}
-use Rattle.refinement.proofs.Refines.{agree-same}
+use Rattle.refinement.specs.Refinement.{passageTests}
 use Rattle.whole_run.specs.History.{History, bytesOf, answersOf}
 use Rattle.whole_run.proofs.Histories.{Faithful, length-bytes}
 
@@ -50,4 +51,4 @@ module _ {key : Key} {p : List ℕ} {h : History} (long : 1 ≤ length p) (faith
   pub faithful-claim : Claim (agreeUnder key) p (bytesOf h) (answersOf h)
   faithful-claim =
       claim-of (agreeUnder key) p (bytesOf h) (answersOf h) (answerAt (passageTests key p) (bytesOf h)) answers-same
-      (ladder-claim (agreeUnder key) (agree-same key) p (bytesOf h) long)
+      (ladder-claim (agreeUnder key) (agree-self key) p (bytesOf h) long)

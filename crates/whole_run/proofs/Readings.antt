@@ -3,12 +3,11 @@
 use Prim.Native.Nat.{ℕ, _<_}
 use mathlib.Core.Path.{_≡_}
 use mathlib.Core.List.{List}
-use lib.ListN.{getD}
 use Rattle.fingerprint.specs.declared.Key.{Key}
 use Rattle.signature.specs.declared.Signature.{Signature}
 use Rattle.matcher.specs.declared.Matcher.{Matcher}
-use Rattle.stage.specs.Stage.{noStage, alone, takenOff}
-use Rattle.stage.specs.Stages.{stageCount}
+use Rattle.stage.specs.Stage.{alone, takenOff}
+use Rattle.stage.specs.Stages.{stageCount, stageAt}
 use Rattle.refinement.proofs.Readings.{both-readings}
 use Rattle.whole_run.specs.History.{History, bytesOf}
 use Rattle.whole_run.specs.Run.{CardOf, Call, Run}
@@ -23,7 +22,7 @@ pub run-both-readings :
     → Run card calls w h
     → (i : ℕ)
     → i < stageCount
-    → getD (w .stages) i noStage .held ≡ 2
-    → takenOff (card .key) (getD (w .stages) i noStage) ≡ alone (getD (w .stages) i noStage .last)
+    → stageAt (w .stages) i .held ≡ 2
+    → takenOff (card .key) (stageAt (w .stages) i) ≡ alone (stageAt (w .stages) i .last)
 run-both-readings key p card c {h = h} run i place =
     rw (run-tracks c run .watch) (both-readings card (card-of c .fits) (bytesOf h) i place)

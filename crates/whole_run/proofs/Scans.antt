@@ -28,7 +28,12 @@ module _ (card : Signature) where
 
   one-more :
       (calls : List Call) (w : Matcher) (h : History) (byte : ℕ) (bytes : List ℕ) (end : Matcher)
-      → Struck (calls ++ stroke core byte ∷ []) (afterStroke w byte) (h ++ record { byte = byte; answer = strokeAnswer w byte } ∷ []) bytes end
+      → Struck
+      (calls ++ stroke core byte ∷ [])
+      (afterStroke w byte)
+      (h ++ record { byte = byte; answer = strokeAnswer w byte } ∷ [])
+      bytes
+      end
       → Struck calls w h (byte ∷ bytes) end
   one-more calls w h byte bytes end run =
       rw (

@@ -3,12 +3,12 @@
 use Prim.Native.Nat.{ℕ, suc, _≤_}
 use mathlib.Core.List.{List}
 use Rattle.fingerprint.specs.declared.Key.{Key}
+use Rattle.fingerprint.specs.Fingerprint.{agreeUnder}
 use Rattle.ladder.specs.Prefix.{levels}
 use Rattle.ladder.specs.Claim.{Claim}
 use Rattle.signature.specs.declared.Signature.{Signature}
 use Rattle.matcher.specs.declared.Matcher.{Matcher}
 use Rattle.matcher.specs.Stroke.{strokeAnswer}
-use Rattle.refinement.specs.Refinement.{agreeUnder}
 use Rattle.matcher.proofs.Ceiling.{ceiling}
 use Rattle.whole_run.specs.History.{History, bytesOf, answersOf}
 use Rattle.whole_run.specs.Run.{CardOf, Call, Run, Wrote}

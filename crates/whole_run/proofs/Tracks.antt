@@ -10,12 +10,11 @@ use native.Mathlib.Omega.{arith}
 use lib.ListN.{length, take, drop}
 use borrow.Author.Tests.{ne-eqb}
 use Rattle.fingerprint.specs.declared.Key.{Key}
-use Rattle.lists.proofs.Laws.{length-tabulate}
 use Rattle.signature.specs.declared.Signature.{Signature}
 use Rattle.made_from.specs.MadeFrom.{MadeSignature}
 use Rattle.matcher.specs.declared.Matcher.{Matcher}
 use Rattle.stage.specs.Stage.{maxTaken}
-use Rattle.stage.specs.Stages.{stageCount}
+use Rattle.stage.proofs.Stages.{whole-of}
 use Rattle.matcher.specs.Matcher.{matcherFits, fresh}
 use Rattle.matcher.specs.Stroke.{strokeRefusal, strokeAnswer, afterStroke}
 use Rattle.refinement.specs.Refinement.{passageTests, watchOf, Refines}
@@ -64,7 +63,7 @@ module _ {key : Key} {p : List ℕ} {card : Signature} (c : CardOf key p card) w
 
   shaped : (h : List ℕ) → length h ≤ maxTaken → Shaped (watchOf card h)
   unfolding watchOf
-  shaped h l = record { stages = length-tabulate _ stageCount; now = omega arith }
+  shaped h l = record { stages = whole-of _; now = omega arith }
 
   -- A resumption from the record of such a watch is accepted and hands the watch back.
   pub resumed :

@@ -1,5 +1,9 @@
 -- `record::place_at` meets its contract.
+use mathlib.Core.Path.{sym, _∙_, ap}
 use borrow.Author.Tests.{le-leb, lt-leb}
+use Rattle.fingerprint.specs.Fingerprint.{printOf}
+use Rattle.record.specs.Layout.{printFrom}
+use Rattle.record.proofs.Positions.{print-place}
 use borrow.Author.Needs.{needs}
 use Rattle.record.proofs.place_at.Statement.{statement}
 use Rattle.record.proofs.place_at.Tie as tie
@@ -20,7 +24,10 @@ print-at-requires : tie.Need-print-at-requires
 print-at-requires c κs = search needs
 
 returns-2 : tie.Need-returns-2
-returns-2 c = rw (le-leb _ _ (c .before .if1 .left)) (c .print-at .ensures)
+unfolding printFrom
+returns-2 c =
+    let a = c .before .before .before .args in
+    rw (le-leb _ _ (c .before .if1 .left)) (c .print-at .ensures ∙ ap printOf (sym (print-place (a .buf .now) (a .k) (a .i) (c .before .if1 .left))))
 
 pub place-at-spec : {M : Type 1} → statement M
 place-at-spec =

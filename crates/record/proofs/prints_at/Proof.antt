@@ -3,16 +3,17 @@ use Prim.Native.Nat.{_-_, _≤_}
 use mathlib.Core.Path.{_≡_, refl, _∙_}
 use native.Mathlib.Omega.{arith}
 use lib.ListN.{length, take, replicate, length-set}
+use Rattle.fields.specs.Fields.{valuesAt}
 use Rattle.lists.specs.Lists.{tabulate}
 use Rattle.lists.proofs.Laws.{fill-none, fill-more, fill-all}
-use Rattle.record.specs.Layout.{signaturePlace}
+use Rattle.record.specs.Layout.{signatureWidths, signaturePlace}
 use borrow.Author.Needs.{needs}
 use Rattle.record.proofs.prints_at.Statement.{statement}
 use Rattle.record.proofs.prints_at.Tie as tie
 
 abbrev Inv-loop : tie.InvT-loop
 Inv-loop buf k prints₀ i₀ prints i =
-    (i ≤ 21) × (length prints ≡ 21) × (take i prints ≡ tabulate (signaturePlace buf k) i)
+    (i ≤ 21) × (length prints ≡ 21) × (take i prints ≡ tabulate (signaturePlace (valuesAt buf 0 (signatureWidths k)) k) i)
 
 abbrev μ-loop : tie.MeasureT-loop
 μ-loop buf k prints₀ i₀ prints i = 21 - i
@@ -42,7 +43,7 @@ loop-again : tie.Need-loop-again Inv-loop μ-loop
 loop-again c =
     let l = c .before .before in
     let a = l .before .before .before .args in
-    let f = signaturePlace (a .buf .now) (a .k) in (
+    let f = signaturePlace (valuesAt (a .buf .now) 0 (signatureWidths (a .k))) (a .k) in (
       omega arith,
       length-set (l .loop .prints) (l .loop .i) (c .place-at .result) ∙ l .loop .inv .1,
       rw (c .place-at .ensures)
@@ -54,7 +55,7 @@ returns c =
     let l = c .before in
     let end : l .loop .i ≡ 21 = omega arith in
     let a = l .before .before .before .args in
-    fill-all (signaturePlace (a .buf .now) (a .k)) _ 21 (l .loop .inv .1) (rw end at (l .loop .inv .2))
+    fill-all (signaturePlace (valuesAt (a .buf .now) 0 (signatureWidths (a .k))) (a .k)) _ 21 (l .loop .inv .1) (rw end at (l .loop .inv .2))
 
 pub prints-at-spec : {M : Type 1} → statement M
 prints-at-spec =

@@ -3,23 +3,25 @@ use Prim.Native.Nat.{_+_, _-_, _*_, _≤_}
 use mathlib.Core.Path.{_≡_, refl, _∙_}
 use native.Mathlib.Omega.{arith}
 use lib.ListN.{length}
-use Rattle.record.specs.Layout.{gathered, printFieldsOf}
-use Rattle.record.specs.Field.{stamped}
-use Rattle.record.proofs.Pasted.{stamped-none, stamped-more}
+use Rattle.fields.specs.Fields.{size, gathered, stamped}
+use Rattle.fields.proofs.Gathered.{stamped-none, stamped-more}
+use Rattle.fingerprint.specs.Fingerprint.{printNumbers}
+use Rattle.record.specs.Layout.{printFieldsOf}
+use Rattle.record.specs.Places.{printSize, printPlace}
 use borrow.Author.Needs.{needs}
 use Rattle.record.proofs.put_prints.Statement.{statement}
 use Rattle.record.proofs.put_prints.Tie as tie
 
 abbrev Inv-loop : tie.InvT-loop
 Inv-loop buf₀ n prints i₀ buf i =
-    (i ≤ n) × (length buf ≡ length buf₀) × (buf ≡ stamped buf₀ 14 (gathered (printFieldsOf prints) i))
+    (i ≤ n) × (length buf ≡ length buf₀) × (buf ≡ stamped buf₀ printPlace (gathered (printFieldsOf prints) i))
 
 abbrev μ-loop : tie.MeasureT-loop
 μ-loop buf₀ n prints i₀ buf i = n - i
 
 loop-holds : tie.Need-loop-holds Inv-loop μ-loop
 loop-holds c =
-    (omega arith, refl, stamped-none (c .before .args .buf .now) 14 (printFieldsOf (c .before .args .t2)))
+    (omega arith, refl, stamped-none (c .before .args .buf .now) printPlace (printFieldsOf (c .before .args .t2)))
 
 mul-print : tie.Need-mul-print Inv-loop μ-loop
 mul-print c = search needs
@@ -43,13 +45,15 @@ loop-less : tie.Need-loop-less Inv-loop μ-loop
 loop-less c = search needs
 
 loop-again : tie.Need-loop-again Inv-loop μ-loop
+unfolding size printNumbers
 loop-again c =
     let l = c .before .before .before .before .before .before in
     let a = l .before .before .args in (
       omega arith,
       search needs,
       c .before .before .put-print .ensures
-          ∙ stamped-more (a .buf .now) 14 (printFieldsOf (a .t2)) 1 (λ j. refl) (l .loop .buf) (l .loop .i) (14 + 4 * l .loop .i) (omega arith) (omega arith) (l .loop .inv .2),
+          ∙ stamped-more (a .buf .now) printPlace (printFieldsOf (a .t2)) printSize (λ j. refl) (l .loop .buf)
+          (l .loop .i) (printPlace + printSize * l .loop .i) (omega arith) (omega arith) (l .loop .inv .2),
     )
 
 same-length : tie.Need-same-length Inv-loop μ-loop

@@ -1,14 +1,20 @@
 -- `record::put_signature` meets its contract: the head and the fields, one behind another, are the record.
+use Prim.Native.Nat.{_-_}
+use native.Mathlib.Omega.{arith}
+use Rattle.record.proofs.Sizes.{signature-length-is}
 use Rattle.record.proofs.Assembled.{signature-put}
 use borrow.Author.Needs.{needs}
 use Rattle.record.proofs.put_signature.Statement.{statement}
 use Rattle.record.proofs.put_signature.Tie as tie
 
-signature-length-requires : tie.Need-signature-length-requires
-signature-length-requires c κs = search needs
+signature-size-requires : tie.Need-signature-size-requires
+signature-size-requires c κs = search needs
+
+sub-put-head : tie.Need-sub-put-head
+sub-put-head c = search needs
 
 cast-put-head : tie.Need-cast-put-head
-cast-put-head c = search needs
+cast-put-head c = let a = c .before .before .before .before .before .args in omega (arith, signature-length-is (a .k))
 
 put-head-requires : tie.Need-put-head-requires
 put-head-requires c κs = search needs
@@ -31,20 +37,22 @@ same-length c = search needs
 returns : tie.Need-returns
 returns c =
     let prints = c .before .before in
-    let key = c .before .before .before .before .before .before in
-    let m = c .before .before .before .before .before .before .before .before .before .before in
-    let head = c .before .before .before .before .before .before .before .before .before .before .before .before .before .before in
+    let key = prints .before .before .before .before in
+    let m = key .before .before .before .before in
+    let head = m .before .before .before .before in
+    let size = head .before .signature-size in
     let start = head .before .before .before .before .before .before in
-    signature-put (start .args .signature) (start .args .k) (start .args .buf .now) (head .put-head .last .0) (m .put-word .last .0)
-    (key .put-key .last .0) _ (start .pre .0) (start .pre .2)
-    (rw (head .before .signature-length .ensures) at (head .put-head .ensures))
-    (m .put-word .ensures) (key .put-key .ensures) (prints .put-prints .ensures)
+    let l = start .args .buf .now in
+    signature-put (start .args .signature) (start .args .k) (size .result - 4) l (head .put-head .last .0) (m .put-word .last .0)
+    (key .put-key .last .0) _ (start .pre .0) (omega (arith, signature-length-is (start .args .k))) (start .pre .2)
+    (head .put-head .ensures) (m .put-word .ensures) (key .put-key .ensures) (prints .put-prints .ensures)
 
 pub put-signature-spec : {M : Type 1} → statement M
 put-signature-spec =
     tie.close
     (tie.spec
-    signature-length-requires
+    signature-size-requires
+    sub-put-head
     cast-put-head
     put-head-requires
     put-word-requires

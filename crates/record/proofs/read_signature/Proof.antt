@@ -7,7 +7,7 @@ use borrow.Author.Tests.{ne-eqb, eq-eqb, not-true, not-false}
 use Rattle.ladder.specs.Prefix.{levels}
 use Rattle.refusal.specs.declared.Refusal.the-variants.{Misfit}
 use Rattle.refusal.specs.Number.{refusalNumber, number}
-use Rattle.record.specs.Layout.{wordAt, lengthField, signatureLength}
+use Rattle.record.specs.Layout.{lengthField, patternLength, signatureLength}
 use Rattle.record.specs.Calls.{signatureSuits}
 use Rattle.record.proofs.Reading.{refusal-given, unread-at, unsuited, read-nothing, read-whole}
 use borrow.Author.Needs.{needs}
@@ -35,20 +35,23 @@ returns c =
 enum-told : tie.Need-enum-told
 enum-told c = search needs
 
-number-at-requires : tie.Need-number-at-requires
-number-at-requires c κs = search needs
+word-at-requires : tie.Need-word-at-requires
+word-at-requires c κs = search needs
 
-number-at-requires-2 : tie.Need-number-at-requires-2
-number-at-requires-2 c κs = search needs
+cast-taken : tie.Need-cast-taken
+cast-taken c = search needs
+
+add-taken : tie.Need-add-taken
+add-taken c = search needs
+
+word-at-requires-2 : tie.Need-word-at-requires-2
+word-at-requires-2 c κs = search needs
 
 levels-requires : tie.Need-levels-requires
 levels-requires c κs = search needs
 
-cast-if1 : tie.Need-cast-if1
-cast-if1 c = search needs
-
-signature-length-requires : tie.Need-signature-length-requires
-signature-length-requires c κs = search needs
+signature-size-requires : tie.Need-signature-size-requires
+signature-size-requires c κs = search needs
 
 unread-requires-2 : tie.Need-unread-requires-2
 unread-requires-2 c κs = search needs
@@ -59,12 +62,13 @@ returns-2 c =
     let told = k .before .before .before .before in
     let s = told .before .before .before .before .args .buf .now in
     let head = ap number (sym (told .enum-told .given .1)) ∙ told .before .before .check-head .ensures in
-    let length = k .before .before .before .number-at .ensures in
-    let due : k .signature-length .result ≡ signatureLength (levels (wordAt s 6)) =
-    k .signature-length .ensures ∙ rw (k .before .levels .ensures, k .before .before .number-at2 .ensures)
+    let length = k .before .before .before .word-at .ensures in
+    let due : k .signature-size .result ≡ signatureLength (levels (patternLength s)) + 4 =
+    k .signature-size .ensures
+    ∙ ap (λ (k : ℕ). signatureLength k + 4) (k .before .levels .ensures ∙ ap levels (k .before .before .word-at2 .ensures))
     in
     let u = c .unread2 .ensures in
-    let fails : signatureSuits s ≡ false = rw (ne-eqb (lengthField s) _ (λ e. c .before .if1 .taken (length ∙ e ∙ sym due))) in
+    let fails : signatureSuits s ≡ false = rw (ne-eqb (lengthField s) _ (λ e. c .before .if1 .taken (ap (λ (n : ℕ). n + 4) (length ∙ e) ∙ sym due))) in
     read-nothing s _ _ _ (rw (u .0) (refusal-given Misfit)) (u .0 ∙ unsuited s head fails) (u .1) (u .2)
 
 signature-at-requires : tie.Need-signature-at-requires
@@ -82,23 +86,18 @@ returns-3 c =
     let told = k .before .before .before .before in
     let s = told .before .before .before .before .args .buf .now in
     let head = ap number (sym (told .enum-told .given .1)) ∙ told .before .before .check-head .ensures in
-    let length = k .before .before .before .number-at .ensures in
-    let due : k .signature-length .result ≡ signatureLength (levels (wordAt s 6)) =
-    k .signature-length .ensures ∙ rw (k .before .levels .ensures, k .before .before .number-at2 .ensures)
+    let length = k .before .before .before .word-at .ensures in
+    let due : k .signature-size .result ≡ signatureLength (levels (patternLength s)) + 4 =
+    k .signature-size .ensures
+    ∙ ap (λ (k : ℕ). signatureLength k + 4) (k .before .levels .ensures ∙ ap levels (k .before .before .word-at2 .ensures))
     in
     let card = c .before .before .before .signature-at .ensures in
-    let same : lengthField s ≡ signatureLength (levels (wordAt s 6)) = omega arith in
+    let same : lengthField s ≡ signatureLength (levels (patternLength s)) = omega arith in
     let u = c .unread3 .ensures in
     let fails : signatureSuits s ≡ false =
     rw (eq-eqb (lengthField s) _ same, ← card, ← c .before .before .fits2 .ensures) (not-true _ (c .before .if2 .taken))
     in
     read-nothing s _ _ _ (rw (u .0) (refusal-given Misfit)) (u .0 ∙ unsuited s head fails) (u .1) (u .2)
-
-cast-t15 : tie.Need-cast-t15
-cast-t15 c = search needs
-
-add-t16 : tie.Need-add-t16
-add-t16 c = search needs
 
 returns-4 : tie.Need-returns-4
 returns-4 c =
@@ -106,12 +105,13 @@ returns-4 c =
     let told = k .before .before .before .before in
     let s = told .before .before .before .before .args .buf .now in
     let head = ap number (sym (told .enum-told .given .1)) ∙ told .before .before .check-head .ensures in
-    let length = k .before .before .before .number-at .ensures in
-    let due : k .signature-length .result ≡ signatureLength (levels (wordAt s 6)) =
-    k .signature-length .ensures ∙ rw (k .before .levels .ensures, k .before .before .number-at2 .ensures)
+    let length = k .before .before .before .word-at .ensures in
+    let due : k .signature-size .result ≡ signatureLength (levels (patternLength s)) + 4 =
+    k .signature-size .ensures
+    ∙ ap (λ (k : ℕ). signatureLength k + 4) (k .before .levels .ensures ∙ ap levels (k .before .before .word-at2 .ensures))
     in
     let card = c .before .before .signature-at .ensures in
-    let same : lengthField s ≡ signatureLength (levels (wordAt s 6)) = omega arith in
+    let same : lengthField s ≡ signatureLength (levels (patternLength s)) = omega arith in
     let passes : signatureSuits s ≡ true =
     rw (eq-eqb (lengthField s) _ same, ← card, ← c .before .fits2 .ensures) (not-false _ (c .if2 .left))
     in
@@ -126,17 +126,16 @@ read-signature-spec =
     unread-requires
     returns
     enum-told
-    number-at-requires
-    number-at-requires-2
+    word-at-requires
+    cast-taken
+    add-taken
+    word-at-requires-2
     levels-requires
-    cast-if1
-    signature-length-requires
+    signature-size-requires
     unread-requires-2
     returns-2
     signature-at-requires
     fits-requires
     unread-requires-3
     returns-3
-    cast-t15
-    add-t16
     returns-4)

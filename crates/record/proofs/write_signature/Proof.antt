@@ -1,12 +1,15 @@
 -- `record::write_signature` meets its contract: its tests are the definition's, and the record is written whole.
-use mathlib.Core.Path.{_≡_, sym, _∙_}
+use Prim.Native.Nat.{ℕ, _+_}
+use mathlib.Core.Path.{_≡_, sym, _∙_, ap}
 use mathlib.Core.Bool.{true}
 use native.Mathlib.Omega.{arith}
 use borrow.Author.Tests.{not-true, not-false}
+use Rattle.ladder.specs.Prefix.{levels}
+use Rattle.ladder.proofs.Levels.{levels-bound}
+use Rattle.signature.proofs.Card.{sound-card}
 use Rattle.signature.specs.Signature.{signatureFits}
-use Rattle.record.specs.Layout.{signatureRecord}
-use Rattle.record.proofs.Fits.{good-card}
-use Rattle.record.proofs.Sizes.{signature-size}
+use Rattle.record.specs.Layout.{signatureLength, signatureRecord}
+use Rattle.record.proofs.Sizes.{signature-size, signature-length-is}
 use Rattle.record.proofs.Assembled.{put-misfit, put-no-room, put-whole}
 use borrow.Author.Needs.{needs}
 use Rattle.record.proofs.write_signature.Statement.{statement}
@@ -24,21 +27,15 @@ returns c =
 levels-requires : tie.Need-levels-requires
 levels-requires c κs = search needs
 
-signature-length-requires : tie.Need-signature-length-requires
-signature-length-requires c κs =
-    let e = c .before in
-    let a = e .before .before .before .args in
-    let good : signatureFits (a .signature) ≡ true = sym (e .before .fits2 .ensures) ∙ not-false _ (e .if1 .left) in
-    omega (arith, c .levels .ensures, good-card (a .signature) good .stages)
-
-add-size : tie.Need-add-size
-add-size c = search needs
+signature-size-requires : tie.Need-signature-size-requires
+signature-size-requires c κs = search needs
 
 returns-2 : tie.Need-returns-2
 returns-2 c =
     let e = c .before .before .before in
     let a = e .before .before .before .args in
     let good : signatureFits (a .signature) ≡ true = sym (e .before .fits2 .ensures) ∙ not-false _ (e .if1 .left) in
+    let size = c .before .signature-size .ensures ∙ ap (λ (k : ℕ). signatureLength k + 4) (c .before .before .levels .ensures) in
     put-no-room (signatureFits (a .signature)) (signatureRecord (a .signature)) (a .buf .now) good
     (omega (arith, signature-size (a .signature)))
 
@@ -47,7 +44,9 @@ put-signature-requires c κs =
     let e = c .before .before .before .before in
     let a = e .before .before .before .args in
     let good : signatureFits (a .signature) ≡ true = sym (e .before .fits2 .ensures) ∙ not-false _ (e .if1 .left) in
-    omega (arith, good-card (a .signature) good .stages)
+    let k = levels (a .signature .length) in
+    let size = c .before .before .signature-size .ensures ∙ ap (λ (k : ℕ). signatureLength k + 4) (c .before .before .before .levels .ensures) in
+    omega (arith, signature-length-is k, levels-bound (a .signature .length) (sound-card (a .signature) good .short))
 
 same-length : tie.Need-same-length
 same-length c = search needs
@@ -57,7 +56,8 @@ returns-3 c =
     let e = c .before .before .before .before .before .before .before in
     let a = e .before .before .before .args in
     let good : signatureFits (a .signature) ≡ true = sym (e .before .fits2 .ensures) ∙ not-false _ (e .if1 .left) in
-    let size = signature-size (a .signature) in
+    let whole = signature-size (a .signature) in
+    let size = c .before .before .before .before .before .signature-size .ensures ∙ ap (λ (k : ℕ). signatureLength k + 4) (c .before .before .before .before .before .before .levels .ensures) in
     put-whole (signatureFits (a .signature)) (signatureRecord (a .signature)) (a .buf .now) _ _ good (omega arith) (omega arith)
     (c .before .before .put-signature .ensures)
 
@@ -68,8 +68,7 @@ write-signature-spec =
     fits-requires
     returns
     levels-requires
-    signature-length-requires
-    add-size
+    signature-size-requires
     returns-2
     put-signature-requires
     same-length

@@ -27,22 +27,22 @@ fn put_head(buffer: &mut [u8], at: usize, size: usize, kind: u8, signature: Sign
     put(buffer, plus(at, 4), kind);
     put(buffer, plus(at, 5), 0);
     put_number(buffer, plus(at, 6), signature.length);
-    put_number(buffer, plus(at, 10), signature.key.r);
+    put_number(buffer, plus(at, 10), signature.key.number());
 }
 
 // The fingerprint of P_i.
-fn print_number(prints: [Fingerprint; 21], i: usize) -> u32 {
+fn number_of(prints: [Fingerprint; 21], i: usize) -> u32 {
     if 20 < i {
         return 0;
     }
     let print = prints[i];
-    print.value
+    print.number()
 }
 
 // A start and its F, or t and F_t.
 fn put_mark(buffer: &mut [u8], at: usize, mark: Mark) {
     put_number(buffer, at, mark.at);
-    put_number(buffer, plus(at, 4), mark.print.value);
+    put_number(buffer, plus(at, 4), mark.print.number());
 }
 
 // held, first, F_first, last, F_last, step, step print.
@@ -52,7 +52,7 @@ fn put_stage(buffer: &mut [u8], at: usize, stage: Stage) {
     put_mark(buffer, plus(at, 4), stage.first);
     put_mark(buffer, plus(at, 12), stage.last);
     put_number(buffer, plus(at, 20), step.length);
-    put_number(buffer, plus(at, 24), step.print.value);
+    put_number(buffer, plus(at, 24), step.print.number());
 }
 
 // Stage i of the k that a record has, nothing past them.
@@ -79,7 +79,7 @@ pub(crate) fn put_watch(buffer: &mut [u8], at: usize, w: Matcher) {
     let listed = w.stages;
     let k = stages(signature.length as usize) as usize;
     put_head(buffer, at, record_size(signature.length), 2, signature);
-    put_number(buffer, plus(at, 14), print_number(prints, k));
+    put_number(buffer, plus(at, 14), number_of(prints, k));
     put_mark(buffer, plus(at, 18), w.now);
     put_stages(buffer, plus(at, 26), listed, k);
 }
@@ -87,7 +87,7 @@ pub(crate) fn put_watch(buffer: &mut [u8], at: usize, w: Matcher) {
 // The fingerprint of P_i, for i up to k.
 fn put_print_of(buffer: &mut [u8], prints: [Fingerprint; 21], i: usize, k: usize) {
     if i <= k {
-        put_number(buffer, plus(14, i % 21 * 4), print_number(prints, i));
+        put_number(buffer, plus(14, i % 21 * 4), number_of(prints, i));
     }
 }
 

@@ -28,11 +28,12 @@ use crate::tally::BYTES;
 use crate::tally::REFUSED;
 use crate::tally::STREAMS;
 use crate::tally::add;
-use crate::tally::expect;
 use crate::tally::mix_record;
+use crate::tally::tick;
 use matcher::Matcher;
 use matcher::Stroke;
 use record::Written;
+use record::checkpoint::Restored;
 use record::checkpoint::restore;
 use record::checkpoint::save;
 use signature::Signature;
@@ -80,7 +81,7 @@ fn strike(
     put(stream, walk.t, byte);
     let struck = stroke(walk.matcher, byte, thin);
     let verdict = struck.verdict;
-    expect(tally, accepted(verdict));
+    tick(tally, BYTES, accepted(verdict));
     account(
         struck.answer,
         front(stream, t),
@@ -89,7 +90,6 @@ fn strike(
         marks,
         tally,
     );
-    add(tally, BYTES, 1);
     let matcher = struck.matcher;
     Walk {
         matcher,
@@ -183,15 +183,18 @@ fn park_in(w: Matcher, buffer: &mut [u8], n: usize) -> Written {
     save(w, buffer)
 }
 
-// A parking in a buffer that is a byte too short: refused, and the buffer is what it was.
+// Whether a parking was refused for want of space, and the buffer is what it was.
+fn is_short(written: Written, buffer: &[u8]) -> bool {
+    let verdict = written.verdict;
+    verdict.number() == 7 && written.used == 0 && all_are(buffer, FILLER)
+}
+
+// A parking in a buffer that is a byte too short: refused.
 fn park_short(walk: Walk, tally: &mut [u32]) -> Walk {
     let size = record_size(walk.matcher.signature.length);
     let mut buffer = [FILLER; ROOM];
     let written = park_in(walk.matcher, &mut buffer, minus(size, 1));
-    let verdict = written.verdict;
-    expect(tally, verdict.number() == 7 && written.used == 0);
-    expect(tally, all_are(&buffer, FILLER));
-    add(tally, REFUSED, 1);
+    tick(tally, REFUSED, is_short(written, &buffer));
     walk
 }
 
@@ -203,18 +206,24 @@ const VALUES: [u8; 4] = [255, 3, 3, 255];
 
 const DUE: [u32; 4] = [8, 9, 11, 10];
 
+// A record, damaged in some way, is resumed.
+fn damaged(w: Matcher, signature: Signature, way: usize) -> Restored {
+    let mut buffer = [FILLER; ROOM];
+    save(w, &mut buffer);
+    put(&mut buffer, PLACES[way % 4], VALUES[way % 4]);
+    restore(signature, &buffer)
+}
+
 // A resumption from the watch's own record, damaged in some way: refused.
 fn resume_damaged(walk: Walk, signature: Signature, way: usize, tally: &mut [u32]) -> Walk {
-    let mut buffer = [FILLER; ROOM];
-    save(walk.matcher, &mut buffer);
-    put(&mut buffer, PLACES[way % 4], VALUES[way % 4]);
-    let restored = restore(signature, &buffer);
+    let restored = damaged(walk.matcher, signature, way);
     let verdict = restored.verdict;
-    expect(
+    let number = verdict.number();
+    tick(
         tally,
-        verdict.number() == DUE[way % 4] && restored.taken == 0,
+        REFUSED,
+        number == DUE[way % 4] && restored.taken == 0,
     );
-    add(tally, REFUSED, 1);
     walk
 }
 

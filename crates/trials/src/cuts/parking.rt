@@ -12,10 +12,12 @@ use crate::cuts::layout::put_watch;
 use crate::cuts::layout::record_size;
 use crate::tally::PARKED;
 use crate::tally::RESUMED;
-use crate::tally::add;
 use crate::tally::expect;
 use crate::tally::mix_record;
+use crate::tally::tick;
 use matcher::Matcher;
+use record::Written;
+use record::checkpoint::Restored;
 use record::checkpoint::restore;
 use record::checkpoint::save;
 use record::checkpoint::save_behind;
@@ -37,18 +39,19 @@ fn foresee(w: Matcher, buffer: &[u8], at: usize, wanted: &mut [u8]) {
     put_watch(wanted, at, w);
 }
 
+// Whether a writer was accepted, says so many used bytes and left a buffer as it was foreseen.
+fn is_written(written: Written, used: usize, wanted: &[u8], buffer: &[u8]) -> bool {
+    let verdict = written.verdict;
+    accepted(verdict) && written.used == used && !differs(wanted, 0, buffer)
+}
+
 // Parks a watch in the front of a buffer of at most 600 bytes.
 fn park(w: Matcher, buffer: &mut [u8], tally: &mut [u32]) {
     let mut wanted = [0u8; ROOM];
     foresee(w, buffer, 0, &mut wanted);
     let written = save(w, buffer);
-    let verdict = written.verdict;
-    expect(
-        tally,
-        accepted(verdict) && written.used == record_size(w.signature.length),
-    );
-    expect(tally, !differs(&wanted, 0, buffer));
-    add(tally, PARKED, 1);
+    let size = record_size(w.signature.length);
+    tick(tally, PARKED, is_written(written, size, &wanted, buffer));
 }
 
 // Parks a watch behind the used bytes of a buffer of at most 6144 bytes, and hands back the new used length. The used bytes stay as they
@@ -57,17 +60,18 @@ pub(crate) fn park_behind(w: Matcher, buffer: &mut [u8], used: usize, tally: &mu
     let mut wanted = [0u8; LARGEST];
     foresee(w, buffer, used, &mut wanted);
     let written = save_behind(w, buffer, used);
-    let verdict = written.verdict;
-    expect(
-        tally,
-        accepted(verdict) && written.used == plus(used, record_size(w.signature.length)),
-    );
-    expect(tally, !differs(&wanted, 0, buffer));
-    add(tally, PARKED, 1);
+    let end = plus(used, record_size(w.signature.length));
+    tick(tally, PARKED, is_written(written, end, &wanted, buffer));
     written.used
 }
 
-// Resumes a watch under its card: that takes the record's bytes and gives the watch that was parked.
+// Whether a resumption took the record's bytes and gives the watch that was parked.
+fn is_resumed(restored: Restored, size: usize, parked: Matcher) -> bool {
+    let verdict = restored.verdict;
+    accepted(verdict) && restored.taken == size && same_matcher(parked, restored.matcher)
+}
+
+// Resumes a watch under its card.
 pub(crate) fn resume(
     signature: Signature,
     buffer: &[u8],
@@ -75,13 +79,8 @@ pub(crate) fn resume(
     tally: &mut [u32],
 ) -> Matcher {
     let restored = restore(signature, buffer);
-    let verdict = restored.verdict;
-    expect(
-        tally,
-        accepted(verdict) && restored.taken == record_size(signature.length),
-    );
-    expect(tally, same_matcher(parked, restored.matcher));
-    add(tally, RESUMED, 1);
+    let size = record_size(signature.length);
+    tick(tally, RESUMED, is_resumed(restored, size, parked));
     restored.matcher
 }
 
@@ -99,12 +98,8 @@ fn write(signature: Signature, buffer: &mut [u8], tally: &mut [u32]) {
     copy(buffer, 0, &mut wanted, 0, buffer.len());
     put_card(&mut wanted, signature);
     let written = write_signature(signature, buffer);
-    let verdict = written.verdict;
-    expect(
-        tally,
-        accepted(verdict) && written.used == card_size(signature.length),
-    );
-    expect(tally, !differs(&wanted, 0, buffer));
+    let size = card_size(signature.length);
+    expect(tally, is_written(written, size, &wanted, buffer));
 }
 
 // Reads a card back: that takes the record's bytes and gives the card that was written.

@@ -3,9 +3,8 @@ use crate::bytes::minus;
 use crate::bytes::plus;
 use crate::bytes::short;
 use crate::cards::accepted;
+use crate::compare::alike;
 use crate::compare::ring_number;
-use crate::compare::same_answer;
-use crate::compare::same_matcher;
 use crate::generator::next;
 use crate::tally::BYTES;
 use crate::tally::COMPARISONS;
@@ -63,7 +62,7 @@ fn occurs(start: usize, period: usize, altered: usize) -> bool {
 
 // The card, by the maker's calls.
 fn make(period: usize, tally: &mut [u32]) -> Signature {
-    let begun = Builder::begin(short(LONGEST), Key { r: KEY });
+    let begun = Builder::begin(short(LONGEST), Key::new(KEY));
     let mut builder = begun.builder;
     let mut i: usize = 0;
     while i < LONGEST {
@@ -82,7 +81,7 @@ fn value_at(prints: [Fingerprint; 21], i: usize) -> u32 {
         return 0;
     }
     let print = prints[i];
-    print.value
+    print.number()
 }
 
 // Whether each of the card's prints is that of its prefix: 1, 2, 4 .. bytes.
@@ -134,9 +133,7 @@ fn judge(answer: Answer, t: usize, period: usize, altered: usize, tally: &mut [u
 fn strike(w: Matcher, t: usize, period: usize, altered: usize, tally: &mut [u32]) -> Matcher {
     let byte = stream_byte(minus(t, 1), period, altered);
     let core = w.stroke(byte);
-    let thin = in_place::stroke_local(w, byte);
-    expect(tally, same_answer(core.answer, thin.answer));
-    expect(tally, same_matcher(core.matcher, thin.matcher));
+    expect(tally, alike(core, in_place::stroke_local(w, byte)));
     judge(core.answer, t, period, altered, tally);
     core.matcher
 }

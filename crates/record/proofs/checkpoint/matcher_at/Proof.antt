@@ -1,9 +1,12 @@
 -- `record::checkpoint::matcher_at` meets its contract.
-use mathlib.Core.Path.{_≡_, _∙_}
+use Prim.Native.Nat.{ℕ}
+use mathlib.Core.Path.{_≡_, sym, _∙_, ap}
+use Rattle.fields.specs.Fields.{valuesAt}
 use Rattle.ladder.specs.Prefix.{levels}
 use Rattle.lists.specs.Lists.{tabulate}
 use Rattle.stage.specs.Stages.{stageCount}
-use Rattle.record.specs.Layout.{stagePlace, matcherAt}
+use Rattle.record.specs.Layout.{checkpointWidths, markFrom, stagePlace, matcherAt}
+use Rattle.record.proofs.Positions.{now-place}
 use borrow.Author.Needs.{needs}
 use Rattle.record.proofs.checkpoint.matcher_at.Statement.{statement}
 use Rattle.record.proofs.checkpoint.matcher_at.Tie as tie
@@ -21,10 +24,13 @@ returns : tie.Need-returns
 unfolding matcherAt
 returns c =
     let a = c .before .before .before .before .args in
-    let stages : c .stages-at .result ≡ tabulate (stagePlace (a .buf .now) (levels (a .signature .length))) stageCount =
-    c .stages-at .ensures ∙ rw (c .before .levels .ensures)
+    let s = a .buf .now in
+    let now = c .before .before .mark-at .ensures ∙ ap markFrom (sym (now-place s (levels (a .signature .length)))) in
+    let stages =
+    c .stages-at .ensures
+    ∙ ap (λ (k : ℕ). tabulate (stagePlace (valuesAt s 0 (checkpointWidths k)) k) stageCount) (c .before .levels .ensures)
     in
-    λ i. record { signature = a .signature; now = c .before .before .mark-at .ensures i; stages = stages i }
+    λ i. record { signature = a .signature; now = now i; stages = stages i }
 
 pub matcher-at-spec : {M : Type 1} → statement M
 matcher-at-spec = tie.close (tie.spec mark-at-requires levels-requires stages-at-requires returns)

@@ -1,4 +1,7 @@
 -- `record::checkpoint::put_checkpoint` meets its contract: the head and the fields, one behind another, are the record.
+use Prim.Native.Nat.{_-_}
+use native.Mathlib.Omega.{arith}
+use Rattle.record.proofs.Sizes.{checkpoint-length-is}
 use Rattle.record.proofs.Assembled.{checkpoint-put}
 use borrow.Author.Needs.{needs}
 use Rattle.record.proofs.checkpoint.put_checkpoint.Statement.{statement}
@@ -10,11 +13,15 @@ mul-last c = search needs
 element-copy-out-last : tie.Need-element-copy-out-last
 element-copy-out-last c = search needs
 
-checkpoint-length-requires : tie.Need-checkpoint-length-requires
-checkpoint-length-requires c κs = search needs
+checkpoint-size-requires : tie.Need-checkpoint-size-requires
+checkpoint-size-requires c κs = search needs
+
+sub-put-head : tie.Need-sub-put-head
+sub-put-head c = search needs
 
 cast-put-head : tie.Need-cast-put-head
-cast-put-head c = search needs
+cast-put-head c =
+    let a = c .before .before .before .before .before .before .before .before .args in omega (arith, checkpoint-length-is (a .k))
 
 put-head-requires : tie.Need-put-head-requires
 put-head-requires c κs = search needs
@@ -46,9 +53,11 @@ returns c =
     let m = key .before .before .before .before in
     let head = m .before .before .before .before in
     let start = head .before .before .before .before .before .before .before .before .before in
-    checkpoint-put (start .args .matcher) (start .args .k) (start .args .buf .now) (head .put-head .last .0) (m .put-word .last .0)
-    (key .put-key .last .0) (last .put-print .last .0) (now .put-mark .last .0) _ (start .pre .0) (start .pre .2)
-    (rw (head .before .checkpoint-length .ensures) at (head .put-head .ensures))
+    let size = head .before .checkpoint-size in
+    let l = start .args .buf .now in
+    checkpoint-put (start .args .matcher) (start .args .k) (size .result - 4) l (head .put-head .last .0) (m .put-word .last .0)
+    (key .put-key .last .0) (last .put-print .last .0) (now .put-mark .last .0) _ (start .pre .0)
+    (omega (arith, checkpoint-length-is (start .args .k))) (start .pre .2) (head .put-head .ensures)
     (m .put-word .ensures) (key .put-key .ensures) (last .put-print .ensures) (now .put-mark .ensures) (stages .put-stages .ensures)
 
 pub put-checkpoint-spec : {M : Type 1} → statement M
@@ -57,7 +66,8 @@ put-checkpoint-spec =
     (tie.spec
     mul-last
     element-copy-out-last
-    checkpoint-length-requires
+    checkpoint-size-requires
+    sub-put-head
     cast-put-head
     put-head-requires
     put-word-requires

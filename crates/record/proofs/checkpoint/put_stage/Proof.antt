@@ -3,8 +3,10 @@ use Prim.Native.Nat.{_+_}
 use mathlib.Core.Path.{refl, _∙_}
 use mathlib.Core.List.{[], _∷_, _++_}
 use native.Mathlib.Omega.{arith}
-use Rattle.record.specs.Layout.{markFields, gapFields}
-use Rattle.record.proofs.Pasted.{stamped-stamped}
+use Rattle.record.specs.Layout.{word, markFields, gapFields}
+use Rattle.fingerprint.specs.Fingerprint.{printNumbers}
+use Rattle.fields.specs.Fields.{size}
+use Rattle.fields.proofs.Gathered.{stamped-stamped}
 use borrow.Author.Needs.{needs}
 use Rattle.record.proofs.checkpoint.put_stage.Statement.{statement}
 use Rattle.record.proofs.checkpoint.put_stage.Tie as tie
@@ -34,6 +36,7 @@ same-length : tie.Need-same-length
 same-length c = search needs
 
 returns : tie.Need-returns
+unfolding size printNumbers
 returns c =
     let last = c .before .before .before .before .before .before in
     let first = last .before .before .before .before in
@@ -46,10 +49,10 @@ returns c =
       last .put-mark2 .ensures,
       first .put-mark .ensures,
       held .put-word .ensures,
-      stamped-stamped l (s .held ∷ []) (a .at) (markFields (s .first)) (a .at + 4) refl (omega arith),
-      stamped-stamped l (s .held ∷ markFields (s .first)) (a .at) (markFields (s .last)) (a .at + 12) refl (omega arith),
+      stamped-stamped l (word (s .held) ∷ []) (a .at) (markFields (s .first)) (a .at + 4) refl (omega arith),
+      stamped-stamped l (word (s .held) ∷ markFields (s .first)) (a .at) (markFields (s .last)) (a .at + 12) (omega arith) (omega arith),
     )
-    (stamped-stamped l (s .held ∷ markFields (s .first) ++ markFields (s .last)) (a .at) (gapFields (s .step)) (a .at + 20) refl (omega arith))
+    (stamped-stamped l (word (s .held) ∷ markFields (s .first) ++ markFields (s .last)) (a .at) (gapFields (s .step)) (a .at + 20) (omega arith) (omega arith))
 
 pub put-stage-spec : {M : Type 1} → statement M
 put-stage-spec =

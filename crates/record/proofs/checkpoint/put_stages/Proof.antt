@@ -3,22 +3,24 @@ use Prim.Native.Nat.{_+_, _-_, _*_, _≤_}
 use mathlib.Core.Path.{_≡_, refl, _∙_}
 use native.Mathlib.Omega.{arith}
 use lib.ListN.{length}
-use Rattle.record.specs.Layout.{gathered, stageFieldsOf}
-use Rattle.record.specs.Field.{stamped}
-use Rattle.record.proofs.Pasted.{stamped-none, stamped-more}
+use Rattle.fields.specs.Fields.{size, gathered, stamped}
+use Rattle.fields.proofs.Gathered.{stamped-none, stamped-more}
+use Rattle.fingerprint.specs.Fingerprint.{printNumbers}
+use Rattle.record.specs.Layout.{stageFieldsOf}
+use Rattle.record.specs.Places.{stageSize, stagesPlace}
 use borrow.Author.Needs.{needs}
 use Rattle.record.proofs.checkpoint.put_stages.Statement.{statement}
 use Rattle.record.proofs.checkpoint.put_stages.Tie as tie
 
 abbrev Inv-loop : tie.InvT-loop
 Inv-loop buf₀ n stages i₀ buf i =
-    (i ≤ n) × (length buf ≡ length buf₀) × (buf ≡ stamped buf₀ 26 (gathered (stageFieldsOf stages) i))
+    (i ≤ n) × (length buf ≡ length buf₀) × (buf ≡ stamped buf₀ stagesPlace (gathered (stageFieldsOf stages) i))
 
 abbrev μ-loop : tie.MeasureT-loop
 μ-loop buf₀ n stages i₀ buf i = n - i
 
 loop-holds : tie.Need-loop-holds Inv-loop μ-loop
-loop-holds c = (omega arith, refl, stamped-none (c .before .args .buf .now) 26 (stageFieldsOf (c .before .args .t2)))
+loop-holds c = (omega arith, refl, stamped-none (c .before .args .buf .now) stagesPlace (stageFieldsOf (c .before .args .t2)))
 
 mul-stage : tie.Need-mul-stage Inv-loop μ-loop
 mul-stage c = search needs
@@ -42,13 +44,15 @@ loop-less : tie.Need-loop-less Inv-loop μ-loop
 loop-less c = search needs
 
 loop-again : tie.Need-loop-again Inv-loop μ-loop
+unfolding size printNumbers
 loop-again c =
     let l = c .before .before .before .before .before .before in
     let a = l .before .before .args in (
       omega arith,
       search needs,
       c .before .before .put-stage .ensures
-          ∙ stamped-more (a .buf .now) 26 (stageFieldsOf (a .t2)) 7 (λ j. refl) (l .loop .buf) (l .loop .i) (26 + 28 * l .loop .i) (omega arith) (omega arith) (l .loop .inv .2),
+          ∙ stamped-more (a .buf .now) stagesPlace (stageFieldsOf (a .t2)) stageSize (λ j. refl) (l .loop .buf)
+          (l .loop .i) (stagesPlace + stageSize * l .loop .i) (omega arith) (omega arith) (l .loop .inv .2),
     )
 
 same-length : tie.Need-same-length Inv-loop μ-loop

@@ -7,10 +7,11 @@ use borrow.Author.Tests.{ne-eqb, eq-eqb, not-true, not-false}
 use Rattle.ladder.specs.Prefix.{levels}
 use Rattle.refusal.specs.declared.Refusal.the-variants.{Misfit, OtherPassage}
 use Rattle.refusal.specs.Number.{refusalNumber, number}
+use Rattle.ladder.proofs.Levels.{levels-bound}
+use Rattle.signature.proofs.Card.{sound-card}
 use Rattle.signature.specs.Signature.{signatureFits}
 use Rattle.record.specs.Layout.{lengthField, checkpointLength, samePattern}
 use Rattle.record.specs.Calls.{checkpointSuits}
-use Rattle.record.proofs.Fits.{good-card}
 use Rattle.record.proofs.Reading.{refusal-given}
 use Rattle.record.proofs.Restoring.{card-misfits, restore-nothing, unrestored-at, other-pattern, not-suited, restore-whole}
 use borrow.Author.Needs.{needs}
@@ -63,7 +64,7 @@ same-pattern-requires c κs =
     let card = a .signature in
     let s = a .buf .now in
     let fits : signatureFits card ≡ true = sym (e .before .fits2 .ensures) ∙ not-false _ (e .if1 .left) in
-    good-card card fits .stages
+    levels-bound (card .length) (sound-card card fits .short)
 
 not-restored-requires-3 : tie.Need-not-restored-requires-3
 not-restored-requires-3 c κs = search needs
@@ -81,17 +82,20 @@ returns-3 c =
     let differs : samePattern card s ≡ false = sym (c .before .before .same-pattern .ensures) ∙ not-true _ (c .before .if2 .taken) in
     restore-nothing card s _ _ _ (rw (u .0) (refusal-given OtherPassage)) (u .0 ∙ other-pattern card s fits head differs) (u .1) (u .2)
 
-number-at-requires : tie.Need-number-at-requires
-number-at-requires c κs = search needs
+word-at-requires : tie.Need-word-at-requires
+word-at-requires c κs = search needs
+
+cast-taken : tie.Need-cast-taken
+cast-taken c = search needs
+
+add-taken : tie.Need-add-taken
+add-taken c = search needs
 
 levels-requires : tie.Need-levels-requires
 levels-requires c κs = search needs
 
-cast-if3 : tie.Need-cast-if3
-cast-if3 c = search needs
-
-checkpoint-length-requires : tie.Need-checkpoint-length-requires
-checkpoint-length-requires c κs = search needs
+checkpoint-size-requires : tie.Need-checkpoint-size-requires
+checkpoint-size-requires c κs = search needs
 
 not-restored-requires-4 : tie.Need-not-restored-requires-4
 not-restored-requires-4 c κs = search needs
@@ -107,13 +111,13 @@ returns-4 c =
     let fits : signatureFits card ≡ true = sym (e .before .fits2 .ensures) ∙ not-false _ (e .if1 .left) in
     let head = ap number (sym (told .enum-told .given .1)) ∙ told .before .before .check-head .ensures in
     let same : samePattern card s ≡ true = sym (k .before .before .before .before .same-pattern .ensures) ∙ not-false _ (k .before .before .before .if2 .left) in
-    let length = k .before .before .number-at .ensures in
-    let due : k .checkpoint-length .result ≡ checkpointLength (levels (card .length)) =
-    k .checkpoint-length .ensures ∙ rw (k .before .levels .ensures)
+    let length = k .before .before .word-at .ensures in
+    let due : k .checkpoint-size .result ≡ checkpointLength (levels (card .length)) + 4 =
+    k .checkpoint-size .ensures ∙ ap (λ (k : ℕ). checkpointLength k + 4) (k .before .levels .ensures)
     in
     let u = c .not-restored4 .ensures in
     let fails : checkpointSuits card s ≡ false =
-    rw (ne-eqb (lengthField s) _ (λ q. c .before .if3 .taken (length ∙ q ∙ sym due)))
+    rw (ne-eqb (lengthField s) _ (λ q. c .before .if3 .taken (ap (λ (n : ℕ). n + 4) (length ∙ q) ∙ sym due)))
     in
     restore-nothing card s _ _ _ (rw (u .0) (refusal-given Misfit)) (u .0 ∙ not-suited card s fits head same fails) (u .1) (u .2)
 
@@ -137,9 +141,9 @@ returns-5 c =
     let fits : signatureFits card ≡ true = sym (e .before .fits2 .ensures) ∙ not-false _ (e .if1 .left) in
     let head = ap number (sym (told .enum-told .given .1)) ∙ told .before .before .check-head .ensures in
     let same : samePattern card s ≡ true = sym (k .before .before .before .before .same-pattern .ensures) ∙ not-false _ (k .before .before .before .if2 .left) in
-    let length = k .before .before .number-at .ensures in
-    let due : k .checkpoint-length .result ≡ checkpointLength (levels (card .length)) =
-    k .checkpoint-length .ensures ∙ rw (k .before .levels .ensures)
+    let length = k .before .before .word-at .ensures in
+    let due : k .checkpoint-size .result ≡ checkpointLength (levels (card .length)) + 4 =
+    k .checkpoint-size .ensures ∙ ap (λ (k : ℕ). checkpointLength k + 4) (k .before .levels .ensures)
     in
     let made = c .before .before .before .matcher-at .ensures in
     let suited : lengthField s ≡ checkpointLength (levels (card .length)) = omega arith in
@@ -148,12 +152,6 @@ returns-5 c =
     rw (eq-eqb (lengthField s) _ suited, ← made, ← c .before .before .fits3 .ensures) (not-true _ (c .before .if4 .taken))
     in
     restore-nothing card s _ _ _ (rw (u .0) (refusal-given Misfit)) (u .0 ∙ not-suited card s fits head same fails) (u .1) (u .2)
-
-cast-t17 : tie.Need-cast-t17
-cast-t17 c = search needs
-
-add-t18 : tie.Need-add-t18
-add-t18 c = search needs
 
 returns-6 : tie.Need-returns-6
 returns-6 c =
@@ -166,9 +164,9 @@ returns-6 c =
     let fits : signatureFits card ≡ true = sym (e .before .fits2 .ensures) ∙ not-false _ (e .if1 .left) in
     let head = ap number (sym (told .enum-told .given .1)) ∙ told .before .before .check-head .ensures in
     let same : samePattern card s ≡ true = sym (k .before .before .before .before .same-pattern .ensures) ∙ not-false _ (k .before .before .before .if2 .left) in
-    let length = k .before .before .number-at .ensures in
-    let due : k .checkpoint-length .result ≡ checkpointLength (levels (card .length)) =
-    k .checkpoint-length .ensures ∙ rw (k .before .levels .ensures)
+    let length = k .before .before .word-at .ensures in
+    let due : k .checkpoint-size .result ≡ checkpointLength (levels (card .length)) + 4 =
+    k .checkpoint-size .ensures ∙ ap (λ (k : ℕ). checkpointLength k + 4) (k .before .levels .ensures)
     in
     let made = c .before .before .matcher-at .ensures in
     let suited : lengthField s ≡ checkpointLength (levels (card .length)) = omega arith in
@@ -192,16 +190,15 @@ restore-spec =
     same-pattern-requires
     not-restored-requires-3
     returns-3
-    number-at-requires
+    word-at-requires
+    cast-taken
+    add-taken
     levels-requires
-    cast-if3
-    checkpoint-length-requires
+    checkpoint-size-requires
     not-restored-requires-4
     returns-4
     matcher-at-requires
     fits-requires-2
     not-restored-requires-5
     returns-5
-    cast-t17
-    add-t18
     returns-6)

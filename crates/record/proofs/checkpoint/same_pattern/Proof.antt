@@ -3,37 +3,39 @@ use mathlib.Core.Path.{_≡_, sym, _∙_, ap}
 use mathlib.Core.Bool.{true, false}
 use borrow.Author.Tests.{ne-eqb, eq-eqb, not-true, not-false}
 use Rattle.fingerprint.specs.declared.Key.{Key}
-use Rattle.record.specs.Layout.{wordAt, keyAt, sameKey, samePattern}
+use Rattle.fields.specs.Fields.{widths, valuesAt}
+use Rattle.fingerprint.specs.Fingerprint.{keyOf, noKey, sameKey}
+use Rattle.record.specs.Layout.{keyFields, patternLength}
+use Rattle.record.specs.Places.{keyPlace}
+use Rattle.record.proofs.Positions.{pattern-tests}
 use borrow.Author.Needs.{needs}
 use Rattle.record.proofs.checkpoint.same_pattern.Statement.{statement}
 use Rattle.record.proofs.checkpoint.same_pattern.Tie as tie
 
-number-at-requires : tie.Need-number-at-requires
-number-at-requires c κs = search needs
+word-at-requires : tie.Need-word-at-requires
+word-at-requires c κs = search needs
 
 returns : tie.Need-returns
-unfolding samePattern
 returns c =
     let a = c .before .before .before .args in
-    rw (ne-eqb (wordAt (a .buf .now) 6) (a .t2 .length) (λ e. c .if1 .taken (c .before .number-at .ensures ∙ e)))
+    rw (pattern-tests (a .t2) (a .buf .now), ne-eqb (patternLength (a .buf .now)) (a .t2 .length) (λ e. c .if1 .taken (c .before .word-at .ensures ∙ e)))
 
 key-at-requires : tie.Need-key-at-requires
 key-at-requires c κs = search needs
 
-same-key-requires : tie.Need-same-key-requires
-same-key-requires c κs = search needs
+equals-requires : tie.Need-equals-requires
+equals-requires c κs = search needs
 
 returns-2 : tie.Need-returns-2
-unfolding samePattern
 returns-2 c =
     let e = c .before .before .before .before in
     let a = e .before .before .before .args in
-    let key : sameKey (keyAt (a .buf .now) 10) (a .t2 .key) ≡ false =
+    let key : sameKey (keyOf (valuesAt (a .buf .now) keyPlace (widths (keyFields noKey)))) (a .t2 .key) ≡ false =
     ap (λ (k : Key). sameKey k (a .t2 .key)) (sym (c .before .before .key-at .ensures))
-    ∙ sym (c .before .same-key .ensures)
+    ∙ sym (c .before .equals .ensures)
     ∙ not-true _ (c .if2 .taken)
     in
-    rw (eq-eqb (wordAt (a .buf .now) 6) (a .t2 .length) (sym (e .before .number-at .ensures) ∙ e .if1 .left), key)
+    rw (pattern-tests (a .t2) (a .buf .now), eq-eqb (patternLength (a .buf .now)) (a .t2 .length) (sym (e .before .word-at .ensures) ∙ e .if1 .left), key)
 
 levels-requires : tie.Need-levels-requires
 levels-requires c κs = search needs
@@ -50,36 +52,35 @@ element-copy-out-last c = search needs
 print-at-requires : tie.Need-print-at-requires
 print-at-requires c κs = search needs
 
-equals-requires : tie.Need-equals-requires
-equals-requires c κs = search needs
+equals-requires-2 : tie.Need-equals-requires-2
+equals-requires-2 c κs = search needs
 
 returns-3 : tie.Need-returns-3
-unfolding samePattern
 returns-3 c =
     let k = c .before .before .before .before in
     let e = k .before .before .before .before in
     let a = e .before .before .before .args in
-    let key : sameKey (keyAt (a .buf .now) 10) (a .t2 .key) ≡ true =
+    let key : sameKey (keyOf (valuesAt (a .buf .now) keyPlace (widths (keyFields noKey)))) (a .t2 .key) ≡ true =
     ap (λ (k : Key). sameKey k (a .t2 .key)) (sym (k .before .before .key-at .ensures))
-    ∙ sym (k .before .same-key .ensures)
+    ∙ sym (k .before .equals .ensures)
     ∙ not-false _ (k .if2 .left)
     in
-    rw (eq-eqb (wordAt (a .buf .now) 6) (a .t2 .length) (sym (e .before .number-at .ensures) ∙ e .if1 .left), key)
-    (c .equals .ensures ∙ rw (c .before .print-at .ensures, c .before .before .before .levels .ensures))
+    rw (pattern-tests (a .t2) (a .buf .now), eq-eqb (patternLength (a .buf .now)) (a .t2 .length) (sym (e .before .word-at .ensures) ∙ e .if1 .left), key)
+    (c .equals2 .ensures ∙ rw (c .before .print-at .ensures, c .before .before .before .levels .ensures))
 
 pub same-pattern-spec : {M : Type 1} → statement M
 same-pattern-spec =
     tie.close
     (tie.spec
-    number-at-requires
+    word-at-requires
     returns
     key-at-requires
-    same-key-requires
+    equals-requires
     returns-2
     levels-requires
     cast-last
     mul-last
     element-copy-out-last
     print-at-requires
-    equals-requires
+    equals-requires-2
     returns-3)

@@ -1,4 +1,6 @@
 -- `record::checkpoint::stage_at` meets its contract.
+use mathlib.Core.Path.{sym, _∙_}
+use Rattle.record.proofs.Positions.{stage-parts}
 use borrow.Author.Needs.{needs}
 use Rattle.record.proofs.checkpoint.stage_at.Statement.{statement}
 use Rattle.record.proofs.checkpoint.stage_at.Tie as tie
@@ -21,18 +23,20 @@ add-gap-at c = search needs
 gap-at-requires : tie.Need-gap-at-requires
 gap-at-requires c κs = search needs
 
-number-at-requires : tie.Need-number-at-requires
-number-at-requires c κs = search needs
+word-at-requires : tie.Need-word-at-requires
+word-at-requires c κs = search needs
 
 returns : tie.Need-returns
 returns c =
-    λ i.
+    let a = c .before .before .before .before .before .args in
+    (λ i.
     record {
-      held = c .number-at .ensures i;
+      held = c .word-at .ensures i;
       first = c .before .before .before .mark-at .ensures i;
       last = c .before .before .mark-at2 .ensures i;
       step = c .before .gap-at .ensures i;
-    }
+    })
+    ∙ sym (stage-parts (a .buf .now) (a .at))
 
 pub stage-at-spec : {M : Type 1} → statement M
 stage-at-spec =
@@ -44,5 +48,5 @@ stage-at-spec =
     mark-at-requires-2
     add-gap-at
     gap-at-requires
-    number-at-requires
+    word-at-requires
     returns)

@@ -3,16 +3,17 @@ use Prim.Native.Nat.{_-_, _≤_}
 use mathlib.Core.Path.{_≡_, refl, _∙_}
 use native.Mathlib.Omega.{arith}
 use lib.ListN.{length, take, replicate, length-set}
+use Rattle.fields.specs.Fields.{valuesAt}
 use Rattle.lists.specs.Lists.{tabulate}
 use Rattle.lists.proofs.Laws.{fill-none, fill-more, fill-all}
-use Rattle.record.specs.Layout.{stagePlace}
+use Rattle.record.specs.Layout.{checkpointWidths, stagePlace}
 use borrow.Author.Needs.{needs}
 use Rattle.record.proofs.checkpoint.stages_at.Statement.{statement}
 use Rattle.record.proofs.checkpoint.stages_at.Tie as tie
 
 abbrev Inv-loop : tie.InvT-loop
 Inv-loop buf k stages₀ i₀ stages i =
-    (i ≤ 20) × (length stages ≡ 20) × (take i stages ≡ tabulate (stagePlace buf k) i)
+    (i ≤ 20) × (length stages ≡ 20) × (take i stages ≡ tabulate (stagePlace (valuesAt buf 0 (checkpointWidths k)) k) i)
 
 abbrev μ-loop : tie.MeasureT-loop
 μ-loop buf k stages₀ i₀ stages i = 20 - i
@@ -45,7 +46,7 @@ loop-again c =
       omega arith,
       length-set (l .loop .stages) (l .loop .i) (c .stage-place .result) ∙ l .loop .inv .1,
       rw (c .stage-place .ensures)
-          (fill-more (stagePlace (a .buf .now) (a .k)) (l .loop .stages) (l .loop .i) (omega (arith, l .loop .inv .1)) (l .loop .inv .2)),
+          (fill-more (stagePlace (valuesAt (a .buf .now) 0 (checkpointWidths (a .k))) (a .k)) (l .loop .stages) (l .loop .i) (omega (arith, l .loop .inv .1)) (l .loop .inv .2)),
     )
 
 returns : tie.Need-returns Inv-loop μ-loop
@@ -53,7 +54,7 @@ returns c =
     let l = c .before in
     let end : l .loop .i ≡ 20 = omega arith in
     let a = l .before .before .before .args in
-    fill-all (stagePlace (a .buf .now) (a .k)) _ 20 (l .loop .inv .1) (rw end at (l .loop .inv .2))
+    fill-all (stagePlace (valuesAt (a .buf .now) 0 (checkpointWidths (a .k))) (a .k)) _ 20 (l .loop .inv .1) (rw end at (l .loop .inv .2))
 
 pub stages-at-spec : {M : Type 1} → statement M
 stages-at-spec =

@@ -1,0 +1,5 @@
+pub mod Numbers
+pub mod Room
+pub mod Pasted
+pub mod Laws
+pub mod Gathered

@@ -1,0 +1,96 @@
+-- Where the code finds a card's fingerprints, t with F_t and a watch's stages: at the places of their fields in the record.
+-- Assumes nothing.
+use Prim.Native.Nat.{ℕ, _+_, _*_, _≤_, _<_}
+use mathlib.Core.Path.{_≡_, refl, _∙_, ap}
+use mathlib.Core.Bool.{_&&_}
+use mathlib.Core.List.{List}
+use native.Mathlib.Omega.{arith}
+use lib.Dec.{eqb}
+use Rattle.fields.specs.Fields.{widths, size, numberAt, valuesAt}
+use Rattle.fields.proofs.Gathered.{values-gathered}
+use Rattle.fingerprint.specs.Fingerprint.{empty, same, keyNumbers, printNumbers, keyOf, printOf, noKey, sameKey}
+use Rattle.signature.specs.declared.Signature.{Signature}
+use Rattle.signature.specs.Signature.{noSignature}
+use Rattle.stage.specs.Stage.{origin, noGap, noStage}
+use Rattle.matcher.specs.Matcher.{noMatcher}
+use Rattle.record.specs.Layout.{
+  keyFields,
+  printFields,
+  keyFrom,
+  printFrom,
+  lastPrint,
+  patternLength,
+  samePattern,
+  wordWidth,
+  markFields,
+  gapFields,
+  stageFields,
+  markFrom,
+  gapFrom,
+  stageFrom,
+  signatureBody,
+  checkpointBody,
+  signatureWidths,
+  checkpointWidths,
+  printCount,
+  stageFieldCount,
+  markCount,
+  printPosition,
+  nowPosition,
+  stagesPosition,
+  part,
+}
+use Rattle.record.specs.Places.{keyPlace, printSize, stageSize, printPlace, nowPlace, stagesPlace}
+use Rattle.record.proofs.Sizes.{signatureFront, checkpointFront, printWidths, stageWidths, signature-widths, checkpoint-widths}
+
+module _ (s : List ℕ) (k : ℕ) where
+  pub print-place :
+      (i : ℕ)
+      → i ≤ k
+      → part (printPosition + i * printCount) printCount (valuesAt s 0 (signatureWidths k))
+      ≡ valuesAt s (printPlace + printSize * i) (widths (printFields empty))
+  unfolding size keyNumbers printNumbers signatureWidths
+  print-place i l =
+      ap (λ (ws : List ℕ). part (printPosition + i * printCount) printCount (valuesAt s 0 ws)) (signature-widths k noSignature)
+      ∙ values-gathered printWidths printSize (λ j. refl) s signatureFront printCount (k + 1) i _ _ (λ j. refl) (omega arith) refl
+      (omega arith)
+
+  pub now-place : part nowPosition markCount (valuesAt s 0 (checkpointWidths k)) ≡ valuesAt s nowPlace (widths (markFields origin))
+  unfolding valuesAt checkpointBody checkpointWidths keyNumbers printNumbers
+  now-place = refl
+
+  pub stage-place :
+      (i : ℕ)
+      → i < k
+      → part (stagesPosition + i * stageFieldCount) stageFieldCount (valuesAt s 0 (checkpointWidths k))
+      ≡ valuesAt s (stagesPlace + stageSize * i) (widths (stageFields noStage))
+  unfolding size keyNumbers printNumbers checkpointWidths
+  stage-place i l =
+      ap (λ (ws : List ℕ). part (stagesPosition + i * stageFieldCount) stageFieldCount (valuesAt s 0 ws)) (checkpoint-widths k noMatcher)
+      ∙ values-gathered stageWidths stageSize (λ j. refl) s checkpointFront stageFieldCount k i _ _ (λ j. refl) l refl (omega arith)
+
+-- The parts of a stage stand one behind another.
+pub stage-parts :
+    (s : List ℕ) (at : ℕ)
+    → stageFrom (valuesAt s at (widths (stageFields noStage)))
+    ≡ record {
+      held = numberAt s at wordWidth;
+      first = markFrom (valuesAt s (at + 4) (widths (markFields origin)));
+      last = markFrom (valuesAt s (at + 12) (widths (markFields origin)));
+      step = gapFrom (valuesAt s (at + 20) (widths (gapFields noGap)));
+    }
+unfolding valuesAt stageFrom markFrom gapFrom printNumbers
+stage-parts s at =
+    let last : at + 12 ≡ at + 4 + 4 + 4 = omega arith in
+    let step : at + 20 ≡ at + 4 + 4 + 4 + 4 + 4 = omega arith in
+    rw (last, step)
+
+-- "m, r or last fingerprint differs from the card": where they stand.
+pub pattern-tests :
+    (card : Signature) (s : List ℕ)
+    → samePattern card s
+    ≡ eqb (patternLength s) (card .length)
+    && sameKey (keyOf (valuesAt s keyPlace (widths (keyFields noKey)))) (card .key)
+    && same (printOf (valuesAt s printPlace (widths (printFields empty)))) (lastPrint card)
+unfolding samePattern keyFrom printFrom valuesAt checkpointWidths checkpointBody keyNumbers printNumbers
+pattern-tests card s = refl

@@ -1,0 +1,321 @@
+// Watches with one or two numbers replaced, as values and as records: what misfits is refused with 10 by every call that takes it.
+use crate::bytes::put_number;
+use crate::calls::all_calls;
+use crate::cards::FILLER;
+use crate::cards::ROOM;
+use crate::cards::card_of;
+use crate::cards::is_nothing;
+use crate::changes::F_FIRST;
+use crate::changes::F_LAST;
+use crate::changes::F_T;
+use crate::changes::FIRST;
+use crate::changes::HELD;
+use crate::changes::KEY;
+use crate::changes::LAST;
+use crate::changes::LENGTH;
+use crate::changes::NONE;
+use crate::changes::PRINTS;
+use crate::changes::STAGE_0;
+use crate::changes::STAGE_1;
+use crate::changes::STAGE_2;
+use crate::changes::STAGE_3;
+use crate::changes::STAGE_4;
+use crate::changes::STAGE_19;
+use crate::changes::STEP;
+use crate::changes::STEP_PRINT;
+use crate::changes::T;
+use crate::changes::changed_card;
+use crate::changes::changed_watch;
+use crate::compare::same_matcher;
+use crate::meeting::meet;
+use crate::names::say_card_change;
+use crate::names::say_watch_change;
+use crate::print::say;
+use crate::print::words;
+use matcher::Matcher;
+use record::checkpoint::Restored;
+use record::checkpoint::restore;
+use record::checkpoint::save;
+use signature::Signature;
+
+// The watch of a card after so many ones.
+pub(crate) fn watch(m: u32, taken: u32) -> Matcher {
+    let started = Matcher::start(card_of(m));
+    let mut w = started.matcher;
+    let mut i: u32 = 0;
+    while i < taken {
+        let struck = w.stroke(1);
+        w = struck.matcher;
+        i = i + 1;
+    }
+    w
+}
+
+// Replaces a number of a watch in its record: it stands behind the head, the length, the key and the last print.
+pub(crate) fn put_place(buffer: &mut [u8], place: u32, value: u32) {
+    if place < NONE {
+        put_number(buffer, (18 + 4 * place) as usize, value);
+    }
+}
+
+// The watch's record with two numbers replaced, resumed under its card.
+fn resumed(w: Matcher, row: [u32; 5]) -> Restored {
+    let mut buffer = [FILLER; ROOM];
+    save(w, &mut buffer);
+    put_place(&mut buffer, row[0], row[1]);
+    put_place(&mut buffer, row[2], row[3]);
+    restore(w.signature, &buffer)
+}
+
+// Whether it is the changed watch, or beside a refusal nothing.
+fn is_due(restored: Restored, number: u32, changed: Matcher) -> bool {
+    if number != 0 {
+        return is_nothing(restored);
+    }
+    same_matcher(restored.matcher, changed)
+}
+
+// Its verdict.
+fn resume(w: Matcher, row: [u32; 5], changed: Matcher, tally: &mut [u32]) {
+    let restored = resumed(w, row);
+    let verdict = restored.verdict;
+    let holds = is_due(restored, row[4], changed);
+    meet(verdict, row[4], holds, tally);
+}
+
+// A watch with two numbers replaced: the verdicts of strokes, of parkings and of resuming it. A row: place, value there; another place,
+// value there; number.
+fn case(m: u32, taken: u32, row: [u32; 5], tally: &mut [u32]) {
+    say(b"watch of # at #", &[m, taken]);
+    say_watch_change(row[0], row[1]);
+    say_watch_change(row[2], row[3]);
+    words(b":");
+    let w = watch(m, taken);
+    let changed = changed_watch(changed_watch(w, row[0], row[1]), row[2], row[3]);
+    all_calls(changed, row[4], tally);
+    resume(w, row, changed, tally);
+    words(b"\n");
+}
+
+// The rows for the watch of m ones after so many.
+fn cases(m: u32, taken: u32, rows: &[[u32; 5]], tally: &mut [u32]) {
+    let mut i: usize = 0;
+    while i < rows.len() {
+        case(m, taken, rows[i], tally);
+        i = i + 1;
+    }
+}
+
+// t and F_t of the watch of sixteen ones after six. Its stage 0 lists start 5, stage 1 the starts 3 and 4, stage 2 the starts 0, 1 and 2, and
+// stage 3 none.
+pub(crate) fn counts(tally: &mut [u32]) {
+    cases(
+        16,
+        6,
+        &[
+            [NONE, 0, NONE, 0, 0],
+            [T, 0, NONE, 0, 10],
+            [T, 5, NONE, 0, 10],
+            [T, 7, NONE, 0, 10],
+            [T, 4294967295, NONE, 0, 10],
+            [F_T, 0, NONE, 0, 0],
+            [F_T, 2147483646, NONE, 0, 0],
+            [F_T, 2147483647, NONE, 0, 10],
+            [F_T, 4294967295, NONE, 0, 10],
+        ],
+        tally,
+    );
+}
+
+// Stage 3, which lists nothing: its other six numbers are 0.
+pub(crate) fn none_listed(tally: &mut [u32]) {
+    cases(
+        16,
+        6,
+        &[
+            [STAGE_3 + HELD, 1, NONE, 0, 10],
+            [STAGE_3 + FIRST, 1, NONE, 0, 10],
+            [STAGE_3 + F_FIRST, 1, NONE, 0, 10],
+            [STAGE_3 + LAST, 1, NONE, 0, 10],
+            [STAGE_3 + F_LAST, 1, NONE, 0, 10],
+            [STAGE_3 + STEP, 1, NONE, 0, 10],
+            [STAGE_3 + STEP_PRINT, 1, NONE, 0, 10],
+        ],
+        tally,
+    );
+}
+
+// Stage 0, which lists one start: the last is the first, with its print, and there is no step.
+pub(crate) fn one_listed(tally: &mut [u32]) {
+    cases(
+        16,
+        6,
+        &[
+            [STAGE_0 + HELD, 0, NONE, 0, 10],
+            [STAGE_0 + HELD, 2, NONE, 0, 10],
+            [STAGE_0 + FIRST, 4, NONE, 0, 10],
+            [STAGE_0 + F_FIRST, 0, NONE, 0, 10],
+            [STAGE_0 + LAST, 4, NONE, 0, 10],
+            [STAGE_0 + F_LAST, 0, NONE, 0, 10],
+            [STAGE_0 + STEP, 1, NONE, 0, 10],
+            [STAGE_0 + STEP_PRINT, 1, NONE, 0, 10],
+            [
+                STAGE_0 + F_FIRST,
+                2147483646,
+                STAGE_0 + F_LAST,
+                2147483646,
+                0,
+            ],
+            [
+                STAGE_0 + F_FIRST,
+                2147483647,
+                STAGE_0 + F_LAST,
+                2147483647,
+                10,
+            ],
+        ],
+        tally,
+    );
+}
+
+// Stage 2, which lists three starts: held, first, last and step that don't go together; and its prints, each below p.
+pub(crate) fn many_listed(tally: &mut [u32]) {
+    cases(
+        16,
+        6,
+        &[
+            [STAGE_2 + HELD, 0, NONE, 0, 10],
+            [STAGE_2 + HELD, 1, NONE, 0, 10],
+            [STAGE_2 + HELD, 2, NONE, 0, 10],
+            [STAGE_2 + HELD, 4, NONE, 0, 10],
+            [STAGE_2 + FIRST, 1, NONE, 0, 10],
+            [STAGE_2 + LAST, 1, NONE, 0, 10],
+            [STAGE_2 + STEP, 0, NONE, 0, 10],
+            [STAGE_2 + STEP, 2, NONE, 0, 10],
+            [STAGE_2 + HELD, 2, STAGE_2 + STEP, 2, 0],
+            [STAGE_2 + HELD, 2, STAGE_2 + LAST, 1, 0],
+            [STAGE_2 + F_FIRST, 2147483646, NONE, 0, 0],
+            [STAGE_2 + F_FIRST, 2147483647, NONE, 0, 10],
+            [STAGE_2 + F_LAST, 2147483646, NONE, 0, 0],
+            [STAGE_2 + F_LAST, 2147483647, NONE, 0, 10],
+            [STAGE_2 + STEP_PRINT, 2147483646, NONE, 0, 0],
+            [STAGE_2 + STEP_PRINT, 2147483647, NONE, 0, 10],
+        ],
+        tally,
+    );
+}
+
+// A last start too young, and a first too old; a step of 0 between equal starts; products that are right only modulo 2^32; and the largest.
+pub(crate) fn many_listed_at(tally: &mut [u32]) {
+    cases(
+        16,
+        6,
+        &[
+            [STAGE_2 + HELD, 4, STAGE_2 + LAST, 3, 10],
+            [STAGE_1 + HELD, 3, STAGE_1 + FIRST, 2, 10],
+            [STAGE_1 + LAST, 3, STAGE_1 + STEP, 0, 10],
+            [STAGE_2 + HELD, 2147483650, STAGE_2 + STEP, 2, 10],
+            [STAGE_1 + HELD, 2863311532, STAGE_1 + STEP, 3, 10],
+            [STAGE_1 + HELD, 4294967295, STAGE_1 + STEP, 4294967295, 10],
+        ],
+        tally,
+    );
+}
+
+// A fresh watch: F_t is 0 at t = 0, and nothing is listed.
+pub(crate) fn fresh(tally: &mut [u32]) {
+    cases(
+        16,
+        0,
+        &[
+            [NONE, 0, NONE, 0, 0],
+            [F_T, 1, NONE, 0, 10],
+            [T, 1, NONE, 0, 0],
+            [T, 1, F_T, 1, 0],
+            [STAGE_0 + HELD, 1, NONE, 0, 10],
+        ],
+        tally,
+    );
+}
+
+// A 1 past the last stage, where no record has a number. A row: the card's length; place.
+fn past_case(row: [u32; 2], tally: &mut [u32]) {
+    say(b"watch of # at 6", &row);
+    say_watch_change(row[1], 1);
+    words(b":");
+    all_calls(changed_watch(watch(row[0], 6), row[1], 1), 10, tally);
+    words(b"\n");
+}
+
+// The rows.
+fn past_cases(rows: &[[u32; 2]], tally: &mut [u32]) {
+    let mut i: usize = 0;
+    while i < rows.len() {
+        past_case(rows[i], tally);
+        i = i + 1;
+    }
+}
+
+// All numbers of the first stage past the last, and two of the very last; a passage of one byte has no stage.
+pub(crate) fn past(tally: &mut [u32]) {
+    past_cases(
+        &[
+            [16, STAGE_4 + HELD],
+            [16, STAGE_4 + FIRST],
+            [16, STAGE_4 + F_FIRST],
+            [16, STAGE_4 + LAST],
+            [16, STAGE_4 + F_LAST],
+            [16, STAGE_4 + STEP],
+            [16, STAGE_4 + STEP_PRINT],
+            [16, STAGE_19 + HELD],
+            [16, STAGE_19 + STEP_PRINT],
+            [1, STAGE_0 + HELD],
+            [1, STAGE_19 + F_LAST],
+        ],
+        tally,
+    );
+}
+
+// A watch under another card.
+fn under(w: Matcher, signature: Signature) -> Matcher {
+    Matcher { signature, ..w }
+}
+
+// A number of a watch's card is replaced. A row: place, value there; number.
+fn card_case(row: [u32; 3], tally: &mut [u32]) {
+    words(b"watch of 16 at 6, its card");
+    say_card_change(row[0], row[1]);
+    words(b":");
+    let card = changed_card(card_of(16), row[0], row[1]);
+    all_calls(under(watch(16, 6), card), row[2], tally);
+    words(b"\n");
+}
+
+// The rows.
+fn card_cases(rows: &[[u32; 3]], tally: &mut [u32]) {
+    let mut i: usize = 0;
+    while i < rows.len() {
+        card_case(rows[i], tally);
+        i = i + 1;
+    }
+}
+
+// Limits of its card; a shorter or longer passage has other stages.
+pub(crate) fn cards(tally: &mut [u32]) {
+    card_cases(
+        &[
+            [LENGTH, 0, 10],
+            [LENGTH, 8, 10],
+            [LENGTH, 9, 0],
+            [LENGTH, 17, 0],
+            [LENGTH, 1048577, 10],
+            [KEY, 1, 10],
+            [KEY, 2147483646, 0],
+            [KEY, 2147483647, 10],
+            [PRINTS, 256, 10],
+            [PRINTS + 4, 2147483647, 10],
+            [PRINTS + 5, 1, 10],
+        ],
+        tally,
+    );
+}
