@@ -19,7 +19,7 @@ use Rattle.matcher.specs.Stroke.{noAnswer, strokeRefusal, strokeAnswer, afterSt
 use Rattle.matcher.specs.Scan.{silentRing, silent, Scanned, scanned}
 use Rattle.lists.proofs.Cases.{by-test}
 use Rattle.matcher.proofs.Ceiling.{ceiling}
-use Rattle.matcher.proofs.Rounds.{ready}
+use Rattle.matcher.proofs.Sound.{sound, card-of}
 use Rattle.report_lines.specs.Lines.{ringLines, reportLines}
 use Rattle.report_core.specs.Progress.{mostComparisons}
 
@@ -43,7 +43,7 @@ taken-later w byte e = rw (e, afterStroke)
 -- "which is 1 plus the starts taken off", at most one of each stage
 pub taken-few : (w : Matcher) (byte : ℕ) → strokeRefusal w ≡ 0 → strokeAnswer w byte .comparisons ≤ mostComparisons
 taken-few w byte e =
-    omega (arith, ceiling w byte, levels-bound (w .signature .length) (ready w (taken-fits w e) .high))
+    omega (arith, ceiling w byte, levels-bound (w .signature .length) (card-of (sound w (taken-fits w e)) .short))
 
 pub quiet : (t : ℕ) → reportLines t noAnswer ≡ []
 quiet t = silent-lines t noAnswer refl
