@@ -33,6 +33,10 @@ use Rattle.matcher.specs.Skip.{skipped, Unripe}
 use Rattle.matcher.proofs.StrokeFits.{stroke-fits}
 use Rattle.matcher.proofs.Visits.{visit-unripe}
 
+-- No start of the watch becomes ripe up to t.
+abbrev pub Calm : Matcher → ℕ → Type 0
+Calm w t = Unripe (levels (w .signature .length)) (w .signature .length) t (w .stages)
+
 -- the test of equality, turned round
 same-turned : (f g : Fingerprint) → same f g ≡ false → same g f ≡ false
 same-turned f g e =
@@ -101,7 +105,7 @@ pub record Skips (w : Matcher) (n : ℕ) (bytes : List ℕ) (now : Mark) : Type 
   pub same : scanned w bytes ≡ ahead taken taken (scanned (movedOn w now) (drop taken bytes))
 
 -- The byte b, at which no start is ripe, and which is not P_0.
-module _ (w : Matcher) (b : ℕ) (fits : matcherFits w ≡ true) (room : w .now .at < maxTaken) (unripe : Unripe (levels (w .signature .length)) (w .signature .length) (suc (w .now .at)) (w .stages)) (other : same (getD (w .signature .prints) 0 empty) (bytePrint b) ≡ false) where
+module _ (w : Matcher) (b : ℕ) (fits : matcherFits w ≡ true) (room : w .now .at < maxTaken) (unripe : Calm w (suc (w .now .at))) (other : same (getD (w .signature .prints) 0 empty) (bytePrint b) ≡ false) where
   abbrev next : Mark
   next = nextMark (w .signature .key) (w .now) b
 
@@ -155,8 +159,8 @@ module _ (w : Matcher) (b : ℕ) (fits : matcherFits w ≡ true) (room : w .now 
         same = quiet-scanned bytes ∙ ap (onward 1) (q .same) ∙ scanned-by refl refl (omega arith) (omega arith) refl;
       }
 
-pub sooner : (k m : ℕ) (stages : Stages) {t u : ℕ} → t ≤ u → Unripe k m u stages → Unripe k m t stages
-sooner k m stages l f i b h = omega (arith, f i b h)
+pub sooner : (w : Matcher) {t u : ℕ} → t ≤ u → Calm w u → Calm w t
+sooner w l f i b h = omega (arith, f i b h)
 
 -- one stage more
 pub unripe-more :
@@ -192,7 +196,7 @@ SkipsAll n bytes =
     (w : Matcher)
     → matcherFits w ≡ true
     → w .now .at + n ≤ maxTaken
-    → Unripe (levels (w .signature .length)) (w .signature .length) (w .now .at + n) (w .stages)
+    → Calm w (w .now .at + n)
     → Skips w n bytes (skipped (w .signature .key) (first w) n (w .now) bytes)
 
 skips-more : (n b : ℕ) (bytes : List ℕ) → SkipsAll n bytes → SkipsAll (suc n) (b ∷ bytes)
@@ -203,8 +207,8 @@ skips-more n b bytes more w fits room unripe =
     (λ e.
     let t : ℕ = w .now .at in
     let below : t < maxTaken = omega arith in
-    let soon : Unripe (levels (w .signature .length)) (w .signature .length) (suc t) (w .stages) = sooner (levels (w .signature .length)) (w .signature .length) (w .stages) (omega arith) unripe in
-    let later : Unripe (levels (w .signature .length)) (w .signature .length) (suc t + n) (w .stages) = sooner (levels (w .signature .length)) (w .signature .length) (w .stages) (omega arith) unripe in
+    let soon : Calm w (suc t) = sooner w (omega arith) unripe in
+    let later : Calm w (suc t + n) = sooner w (omega arith) unripe in
     rw e
     (skip-one w b fits below soon e n bytes _
     (more (movedOn w (nextMark (w .signature .key) (w .now) b)) (quiet-fits w b fits below soon e) (omega arith) later)))

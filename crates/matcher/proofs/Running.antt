@@ -24,11 +24,11 @@ use Rattle.matcher.specs.declared.Scan.{Scan}
 use Rattle.matcher.specs.Matcher.{matcherFits, moved}
 use Rattle.matcher.specs.Stroke.{noAnswer, nextMark, walked, strokeRefusal, strokeAnswer, afterStroke}
 use Rattle.matcher.specs.Scan.{Scanned, silent, scanned, scanOf}
-use Rattle.matcher.specs.Skip.{skipped, Unripe, silentEnd, Ends}
+use Rattle.matcher.specs.Skip.{skipped, silentEnd, Ends}
 use Rattle.matcher.proofs.Sound.{sound, card-of, after-taken}
 use Rattle.matcher.proofs.StrokeFits.{stroke-fits}
 use Rattle.matcher.proofs.Ceiling.{ceiling}
-use Rattle.matcher.proofs.Quiet.{movedOn, first, ahead, scanned-by, Skips, no-skips, skips, sooner, skipped-none}
+use Rattle.matcher.proofs.Quiet.{Calm, movedOn, first, ahead, scanned-by, Skips, no-skips, skips, sooner, skipped-none}
 
 -- The run at a place of the input: the watch fits, its comparisons are few, and what is left to take is taken by it.
 pub record Running (self : Matcher) (input : List ℕ) (from : ℕ) (w : Matcher) (at comparisons : ℕ) : Type 0 where
@@ -164,7 +164,7 @@ module _ (self : Matcher) (input : List ℕ) (from : ℕ) where
         })
 
     pub run-skip :
-        (until : ℕ) → until ≤ maxTaken → Unripe (levels (w .signature .length)) (w .signature .length) until (w .stages)
+        (until : ℕ) → until ≤ maxTaken → Calm w until
         → (r : Mark) → r ≡ skipped (w .signature .key) (first w) (min (until - w .now .at) (length input - at)) (w .now) (drop at input)
         → Running self input from (movedOn w r) (at + (r .at - w .now .at)) (comparisons + (r .at - w .now .at))
     run-skip until low unripe r e =
@@ -172,7 +172,7 @@ module _ (self : Matcher) (input : List ℕ) (from : ℕ) where
         run-passed until n r low (omega arith) (omega arith)
         (rw e
         (elim (decLt (w .now .at) until) [
-          | yes l ↦ skips n (drop at input) w (q .fits) (omega arith) (sooner (levels (w .signature .length)) (w .signature .length) (w .stages) (omega arith) unripe)
+          | yes l ↦ skips n (drop at input) w (q .fits) (omega arith) (sooner w (omega arith) unripe)
           | no l ↦ rw (skipped-none (w .signature .key) (first w) input (w .now) n at (omega arith)) (no-skips w n (drop at input) (q .fits))
         ]))
 
