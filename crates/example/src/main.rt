@@ -7,20 +7,26 @@ use matcher::Ring;
 use record::checkpoint::restore;
 use record::checkpoint::save;
 
-// The watch with these bytes taken; each start that rings is printed with the number of the byte at which it does.
+// A ring at byte t.
+fn say(t: u32, ring: Ring) {
+    if let Ring::At(start) = ring {
+        io::print_decimal(1, start as u64);
+        io::write_all(1, b" rings at byte ");
+        io::print_decimal(1, t as u64);
+        io::write_all(1, b"\n");
+    }
+}
+
+// The watch with these bytes taken; each ring is said.
 fn take(watch: Matcher, bytes: &[u8]) -> Matcher {
     let mut w = watch;
     let mut i: usize = 0;
     while i < bytes.len() {
         let stroke = w.stroke(bytes[i]);
         w = stroke.matcher;
-        let ring = stroke.answer.ring;
-        if let Ring::At(start) = ring {
-            io::print_decimal(1, start as u64);
-            io::write_all(1, b" rings at byte ");
-            io::print_decimal(1, w.now.at as u64);
-            io::write_all(1, b"\n");
-        }
+        let answer = stroke.answer;
+        let ring = answer.ring;
+        say(w.now.at, ring);
         i = i + 1;
     }
     w

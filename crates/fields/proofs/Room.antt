@@ -12,7 +12,6 @@ use lib.ListN.{length}
 use borrow.Author.Tests.{le-leb, lt-leb}
 use Rattle.fields.specs.declared.Width.{Width}
 use Rattle.fields.specs.declared.Width.the-variants.{Half, Word}
-use Rattle.fields.specs.declared.Found.{Found}
 use Rattle.fields.specs.declared.Found.the-variants.{Number, Missing}
 use Rattle.fields.specs.Fields.{numberFrom, numberAt}
 use Rattle.fields.specs.Calls.{widthOf, fieldAt, numberOf}

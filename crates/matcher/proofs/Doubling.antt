@@ -1,6 +1,6 @@
 -- The table of r to |P_i|: squaring gives the powers of 2 below the last place, which is r to m.
 -- Assumes nothing.
-use Prim.Native.Nat.{ℕ, suc, _+_, _^_, _≤_, _<_}
+use Prim.Native.Nat.{ℕ, suc, _^_, _≤_, _<_}
 use mathlib.Core.Path.{_≡_, sym, _∙_, ap}
 use mathlib.Core.List.{List}
 use native.Mathlib.Nat.{not-suc-le-zero, two-pow-succ, pow-zero}

@@ -13,7 +13,7 @@ use lib.Seq.{drop-cons}
 use borrow.Author.Tests.{eqb-false, ne-eqb, lt-ltb}
 use Rattle.fingerprint.specs.declared.Key.{Key}
 use Rattle.fingerprint.specs.declared.Fingerprint.{Fingerprint}
-use Rattle.fingerprint.specs.Fingerprint.{same, empty, pushed, rest, bytePrint}
+use Rattle.fingerprint.specs.Fingerprint.{same, empty, rest, bytePrint}
 use Rattle.fingerprint.proofs.Laws.{same-eq, eq-same, one-byte}
 use Rattle.ladder.specs.Prefix.{levels, prefixLength}
 use Rattle.ladder.proofs.Levels.{length-positive}

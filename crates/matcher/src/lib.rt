@@ -1,12 +1,11 @@
 // The streaming matcher (document 01, "Ladder"): a watch in a few hundred bytes, and its answer to each byte.
 ghost use mathlib.Core.Path.{_≡_};
-ghost use mathlib.Core.Bool.{true, cond, not, _&&_};
+ghost use mathlib.Core.Bool.{true, not};
 ghost use Prim.Native.Nat.{_+_, _-_, _≤_, _<_, suc, min};
-ghost use lib.Dec.{leb, ltb, eqb};
-ghost use lib.ListN.{length, drop, getD};
+ghost use lib.ListN.{length, drop};
 ghost use Rattle.fingerprint.specs.declared.Key.{Key};
 ghost use Rattle.fingerprint.specs.Fingerprint.{same, power};
-ghost use Rattle.ladder.specs.Prefix.{levels, prefixLength};
+ghost use Rattle.ladder.specs.Prefix.{levels};
 ghost use Rattle.refusal.specs.Number.{number};
 ghost use Rattle.signature.specs.Signature.{maxLength};
 ghost use Rattle.stage.specs.Stage.{maxTaken, gapTo, canEnter};

@@ -58,6 +58,7 @@ use signature::Signature;
 use signature::levels;
 use stage::Gap;
 use stage::Mark;
+use stage::STAGES;
 use stage::Stage;
 
 // The kind of a checkpoint's record, and the least length field that one can have.
@@ -131,7 +132,7 @@ fn put_stage(buf: &mut [u8], at: usize, stage: Stage)
 }
 
 // Writes the first n stages.
-fn put_stages(buf: &mut [u8], stages: [Stage; 20], n: usize)
+fn put_stages(buf: &mut [u8], stages: [Stage; STAGES], n: usize)
     requires { ⌜ (stagesPlace + stageSize * n ≤ length (now buf)) × (n ≤ stageCount) ⌝ }
     ensures { λ _. ⌜ now (buf .exit) ≡ stamped (now (buf .entry)) stagesPlace (gathered (stageFieldsOf stages) n) ⌝ }
 {
@@ -258,13 +259,13 @@ fn stage_place(buf: &[u8], k: u32, i: usize) -> Stage
     stage_at(buf, STAGES_AT + STAGE_SIZE * i)
 }
 
-fn stages_at(buf: &[u8], k: u32) -> [Stage; 20]
+fn stages_at(buf: &[u8], k: u32) -> [Stage; STAGES]
     ensures { λ stages. ⌜ stages ≡ tabulate (stagePlace (valuesAt (now (buf .entry)) 0 (checkpointWidths k)) k) stageCount ⌝ }
 {
     let nothing = Stage::none();
-    let mut stages = [nothing; 20];
+    let mut stages = [nothing; STAGES];
     let mut i: usize = 0;
-    while i < 20 {
+    while i < STAGES {
         stages[i] = stage_place(buf, k, i);
         i = i + 1;
     }

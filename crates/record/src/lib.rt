@@ -28,6 +28,7 @@ ghost use Rattle.record.specs.Calls.{
 use fingerprint::Fingerprint;
 use refusal::Refusal;
 use refusal::Verdict;
+use signature::PLACES;
 use signature::Signature;
 use signature::levels;
 
@@ -75,7 +76,7 @@ fn signature_size(k: u32) -> usize
 }
 
 // Writes the first n fingerprints.
-fn put_prints(buf: &mut [u8], prints: [Fingerprint; 21], n: usize)
+fn put_prints(buf: &mut [u8], prints: [Fingerprint; PLACES], n: usize)
     requires { ⌜ (printPlace + printSize * n ≤ length (now buf)) × (n ≤ places) ⌝ }
     ensures { λ _. ⌜ now (buf .exit) ≡ stamped (now (buf .entry)) printPlace (gathered (printFieldsOf prints) n) ⌝ }
 {
@@ -138,13 +139,13 @@ fn place_at(buf: &[u8], k: u32, i: usize) -> Fingerprint
     print_at(buf, PRINT_AT + PRINT_SIZE * i)
 }
 
-fn prints_at(buf: &[u8], k: u32) -> [Fingerprint; 21]
+fn prints_at(buf: &[u8], k: u32) -> [Fingerprint; PLACES]
     ensures { λ prints. ⌜ prints ≡ tabulate (signaturePlace (valuesAt (now (buf .entry)) 0 (signatureWidths k)) k) places ⌝ }
 {
     let nothing = Fingerprint::empty();
-    let mut prints = [nothing; 21];
+    let mut prints = [nothing; PLACES];
     let mut i: usize = 0;
-    while i < 21 {
+    while i < PLACES {
         prints[i] = place_at(buf, k, i);
         i = i + 1;
     }

@@ -18,6 +18,8 @@ pub const MAX_LENGTH: u32 = 1048576;
 // Places for fingerprints: P_0 to P_20.
 pub const PLACES: usize = 21;
 
+const COUNT: u32 = PLACES as u32;
+
 // A card: the pattern's length m, the key, and the fingerprints of P_0 .. P_k, 0 past them.
 pub struct Signature {
     pub length: u32,
@@ -137,7 +139,7 @@ fn prints_fit(prints: [Fingerprint; PLACES], m: u32, taken: u32) -> bool
     }
     let k = levels(m);
     let mut i: u32 = 0;
-    while i < 21 {
+    while i < COUNT {
         let print = prints[i as usize];
         let reached = reaches(m, taken, k, i);
         if !place_fits(print, reached) {
@@ -181,7 +183,7 @@ fn store(prints: [Fingerprint; PLACES], m: u32, n: u32, print: Fingerprint) -> [
     let k = levels(m);
     let mut after = [print; PLACES];
     let mut i: u32 = 0;
-    while i < 21 {
+    while i < COUNT {
         let old = prints[i as usize];
         let complete = completes(m, n, k, i);
         after[i as usize] = either(complete, print, old);

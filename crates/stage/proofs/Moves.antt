@@ -5,13 +5,12 @@ use mathlib.Core.Path.{_≡_}
 use mathlib.Core.Bool.{true, false}
 use native.Mathlib.Omega.{arith}
 use lib.Dec.{leb, eqb}
-use borrow.Author.Tests.{eqb-true, eqb-false, eq-eqb, ne-eqb, lt-ltb, le-ltb, le-leb, lt-leb}
+use borrow.Author.Tests.{eqb-false, eq-eqb, ne-eqb, lt-ltb, le-ltb, le-leb, lt-leb}
 use Rattle.fingerprint.specs.declared.Key.{Key}
 use Rattle.lists.proofs.Cases.{by-test}
 use Rattle.stage.specs.declared.Mark.{Mark}
 use Rattle.stage.specs.declared.Stage.{Stage}
 use Rattle.stage.specs.declared.Aside.the-variants.{Nothing, Set}
-use Rattle.stage.specs.declared.Entry.{Entry}
 use Rattle.stage.specs.Stage.{maxTaken, noStage, sameGap, gapTo, forward, alone, takenOff, entered, allButLast, takeOffOf, entryOf, quietUntil}
 
 module _ (key : Key) (s : Stage) where

@@ -1,6 +1,6 @@
 -- In a stage that fits the numbers leave room: its first start can be taken off, and one more can enter.
 -- Assumes nothing.
-use Prim.Native.Nat.{ℕ, suc, _+_, _-_, _≤_, _<_}
+use Prim.Native.Nat.{ℕ, suc, _+_, _-_, _≤_}
 use mathlib.Core.Path.{_≡_, sym, _∙_, ap}
 use mathlib.Core.Bool.{true}
 use native.Mathlib.Nat.{le-mul-of-pos-right}
@@ -11,7 +11,7 @@ use Rattle.ladder.proofs.Levels.{length-within}
 use Rattle.signature.specs.Signature.{maxLength}
 use Rattle.stage.specs.declared.Mark.{Mark}
 use Rattle.stage.specs.declared.Stage.{Stage}
-use Rattle.stage.specs.Stage.{maxTaken, noStage, takenOff, entered, asideOf, takeOffOf, canEnter, entryOf}
+use Rattle.stage.specs.Stage.{maxTaken, takenOff, entered, asideOf, takeOffOf, canEnter, entryOf}
 use Rattle.stage.proofs.Fit.{Fit, idle, single, several, Many}
 use Rattle.stage.proofs.Moves.{off-few}
 

@@ -1,10 +1,10 @@
 -- The laws of reaching a stage by its number and of putting another there.
 -- Assumes nothing.
 use Prim.Native.Nat.{ℕ, _≤_, _<_}
-use mathlib.Core.Path.{_≡_, refl, sym, _∙_, ap}
+use mathlib.Core.Path.{_≡_, sym, _∙_, ap}
 use native.Mathlib.Decide.{decLt}
 use native.Mathlib.Omega.{arith}
-use lib.ListN.{length, getD, length-set, length-replicate, getD-replicate, List·getD-eq-default}
+use lib.ListN.{length, length-set, length-replicate, getD-replicate, List·getD-eq-default}
 use lib.Seq.{getD-set-same, getD-set-other, set-out, ext-getD}
 use Rattle.lists.proofs.Laws.{length-tabulate, getD-tabulate}
 use Rattle.stage.specs.declared.Stage.{Stage}

@@ -1,6 +1,5 @@
 -- `stage::Stage::enter` meets its contract.
-use native.Mathlib.Omega.{arith}
-use mathlib.Core.Path.{sym, _∙_, ap}
+use mathlib.Core.Path.{sym}
 use Rattle.stage.specs.declared.Stage.{Stage}
 use Rattle.stage.proofs.Moves.{enter-none, enter-full}
 use borrow.Author.Needs.{needs}

@@ -1,7 +1,6 @@
 -- `stage::Stage::is_ripe` meets its contract.
 use borrow.Author.Tests.{eq-eqb, ne-eqb}
 use native.Mathlib.Omega.{arith}
-use mathlib.Core.Path.{sym}
 use Prim.Native.Nat.{_+_}
 use Rattle.stage.proofs.Tests.{equal-sum}
 use Rattle.stage.proofs.Stage.is_ripe.Statement.{statement}

@@ -1,6 +1,6 @@
 -- `stage::Stage::join` meets its contract.
 use native.Mathlib.Omega.{arith}
-use mathlib.Core.Path.{sym, _∙_, ap}
+use mathlib.Core.Path.{sym, _∙_}
 use native.Mathlib.Numerals.{add-one}
 use Rattle.stage.proofs.Moves.{enter-second, enter-longer, enter-aside}
 use borrow.Author.Needs.{needs}
