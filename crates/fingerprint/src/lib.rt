@@ -1,6 +1,8 @@
 // Karp-Rabin fingerprints of byte blocks (document 01, "Fingerprints").
 ghost use mathlib.Core.Path.{_≡_};
+ghost use Prim.Native.Nat.{_^_, _%_};
 ghost use Rattle.fingerprint.specs.Fingerprint.{
+  p,
   empty,
   pushed,
   joined,
@@ -77,21 +79,28 @@ impl Key {
         self.r == other.r
     }
 
-    // r to the n, modulo P, by halving the exponent.
+    // r to the n, modulo P.
     pub fn power(self, n: u64) -> Power
         ensures { λ a. ⌜ a ≡ power self n ⌝ }
     {
-        if n == 0 {
-            return Power { value: 1 };
-        }
-        let half = self.power(n / 2);
-        let square = half.squared();
-        if n % 2 == 0 {
-            return square;
-        }
-        let odd = (square.value as u64) * (self.r as u64);
         Power {
-            value: (odd % Fingerprint::P) as u32,
+            value: self.residue(n) as u32,
+        }
+    }
+
+    // r to the n, modulo P, as a number: by halving the exponent.
+    fn residue(self, n: u64) -> u64
+        ensures { λ v. ⌜ v ≡ (self .r) ^ n % p ⌝ }
+    {
+        if n == 0 {
+            return 1;
+        }
+        let half = self.residue(n / 2);
+        let square = half * half % Fingerprint::P;
+        if n % 2 == 0 {
+            square
+        } else {
+            square * (self.r as u64) % Fingerprint::P
         }
     }
 }

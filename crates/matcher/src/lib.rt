@@ -107,7 +107,7 @@ fn quiet_until(stages: [Stage; STAGES], m: u32) -> u32
     let mut i: u32 = 0;
     while i < k {
         let stage = stages[i as usize];
-        until = stage.quiet_until(signature::prefix_length(m, i + 1), until);
+        until = stage.quiet_until(m, i + 1, until);
         i = i + 1;
     }
     until
@@ -241,8 +241,7 @@ fn descend(c: Round, k: u32, shifts: [Power; PLACES], before: [Stage; STAGES]) -
         let above = i;
         i = i - 1;
         let s = w.stages[i as usize];
-        let length = signature::prefix_length(m, above);
-        if s.is_ripe(length, now.at) {
+        if s.is_ripe(m, above, now.at) {
             let first = s.first;
             w.stages[i as usize] = s.take_off(key);
             w.answer.comparisons = w.answer.comparisons + 1;

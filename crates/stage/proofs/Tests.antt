@@ -1,8 +1,7 @@
 -- Sums in tests, by differences that do not fall below 0.
 -- Assumes nothing.
-use Prim.Native.Nat.{ℕ, _+_, _-_, _*_, _/_, _≤_, _<_}
+use Prim.Native.Nat.{ℕ, _+_, _-_, _≤_}
 use mathlib.Core.Path.{_≡_}
-use native.Mathlib.Nat.{div-lt-iff-lt-mul}
 use native.Mathlib.Decide.{decLt, ℕ-discrete}
 use native.Mathlib.Omega.{arith}
 use lib.Dec.{ltb, eqb}
@@ -28,16 +27,4 @@ module _ (t a n : ℕ) where
       elim (ℕ-discrete t (a + n)) [
         | yes h ↦ rw (eq-eqb t (a + n) h) (eq-eqb (t - a) n (omega arith))
         | no h ↦ rw (ne-eqb t (a + n) h) (ne-eqb (t - a) n (omega arith))
-      ]
-
--- Whether n steps lead from one place to another, by division.
-module _ (reach n step : ℕ) (moves : 1 ≤ step) where
-  pub too-short : reach / step < n → reach < n * step
-  too-short = div-lt-iff-lt-mul moves .0
-
-  pub long-enough : n ≤ reach / step → n * step ≤ reach
-  long-enough l =
-      elim (decLt reach (n * step)) [
-        | yes h ↦ absurd (omega (arith, div-lt-iff-lt-mul {x = reach} moves .1 h))
-        | no h ↦ omega arith
       ]

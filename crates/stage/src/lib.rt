@@ -3,6 +3,7 @@ ghost use mathlib.Core.Path.{_≡_};
 ghost use mathlib.Core.Bool.{true};
 ghost use Prim.Native.Nat.{_+_, _-_, _≤_, _<_};
 ghost use Rattle.fingerprint.specs.declared.Key.{Key};
+ghost use Rattle.ladder.specs.Prefix.{prefixLength};
 ghost use Rattle.stage.specs.Stage.{maxTaken, origin, noGap, noStage, sameMark, sameGap, ageFits, noneFits, oneFits, manyFit, stagePrintsFit, reachFits, stageFits, gapTo, forward, alone, takeOffOf, entryOf, ripeAt, quietUntil};
 ghost use Rattle.stage.specs.Stages.{stagesFit};
 use fingerprint::Fingerprint;
@@ -149,17 +150,13 @@ fn age_fits(short: u32, long: u32, t: u32, start: u32) -> bool
 
 // Whether `last` is `first` + n × `step`.
 fn reach_fits(first: u32, last: u32, n: u32, step: u32) -> bool
-    requires { ⌜ 1 ≤ step ⌝ }
     ensures { λ ok. ⌜ ok ≡ reachFits first last n step ⌝ }
 {
     if last < first {
         return false;
     }
     let reach = last - first;
-    if reach / step < n {
-        return false;
-    }
-    reach == n * step
+    (reach as u64) == (n as u64) * (step as u64)
 }
 
 impl Stage {
@@ -361,26 +358,28 @@ impl Stage {
         }
     }
 
-    // Whether the stage's first start is t - `length`.
-    pub fn is_ripe(self, length: u32, t: u32) -> bool
-        ensures { λ ok. ⌜ ok ≡ ripeAt length t self ⌝ }
+    // Whether the stage's first start is t - |P_i|, of a pattern of m bytes: i is the number of the stage above.
+    pub fn is_ripe(self, m: u32, i: u32, t: u32) -> bool
+        ensures { λ ok. ⌜ ok ≡ ripeAt (prefixLength m i) t self ⌝ }
     {
         if self.held == 0 {
             return false;
         }
+        let length = signature::prefix_length(m, i);
         if t < length {
             return false;
         }
         self.first.at == t - length
     }
 
-    // `until`, or less: the last t at which the first start is not yet ripe, which it is `length` bytes behind itself.
-    pub fn quiet_until(self, length: u32, until: u32) -> u32
-        ensures { λ t. ⌜ t ≡ quietUntil length until self ⌝ }
+    // `until`, or less: the last t at which the first start is not yet ripe, which it is |P_i| bytes behind itself.
+    pub fn quiet_until(self, m: u32, i: u32, until: u32) -> u32
+        ensures { λ t. ⌜ t ≡ quietUntil (prefixLength m i) until self ⌝ }
     {
         if self.held == 0 {
             return until;
         }
+        let length = signature::prefix_length(m, i);
         if until < length {
             return until;
         }

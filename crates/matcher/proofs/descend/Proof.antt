@@ -24,20 +24,20 @@ abbrev μ-loop : tie.MeasureT-loop
 -- the stage visited has a ripe start
 ripened :
     (c : tie.Then1 Inv-loop μ-loop)
-    → ripeAt (prefixLength (c .before .before .before .before .before .before .before .before .before .before .args .c .signature .length) (c .before .before .before .before .before .loop .i)) (c .before .before .before .before .before .before .before .before .before .before .args .c .now .at)
-    (stageAt (c .before .before .before .before .before .loop .w .stages) (c .before .before .before .before .before .loop .i - 1))
+    → ripeAt (prefixLength (c .before .before .before .before .before .before .before .before .before .args .c .signature .length) (c .before .before .before .before .loop .i)) (c .before .before .before .before .before .before .before .before .before .args .c .now .at)
+    (stageAt (c .before .before .before .before .loop .w .stages) (c .before .before .before .before .loop .i - 1))
     ≡ true
-ripened c = rw (c .before .before .prefix-length .ensures) at (sym (c .before .is-ripe .ensures) ∙ c .if1 .taken)
+ripened c = sym (c .before .is-ripe .ensures) ∙ c .if1 .taken
 
 -- the comparison is that of the start's block with the beginning above
 judged :
     (c : tie.After-matches Inv-loop μ-loop)
-    → c .matches .result ≡ matches (c .before .before .before .before .before .before .before .before .before .before .before .before .before .before .before .before .args .c) (c .before .before .before .before .before .before .before .before .before .before .before .loop .i) (stageAt (c .before .before .before .before .before .before .before .before .before .before .before .loop .w .stages) (c .before .before .before .before .before .before .before .before .before .before .before .loop .i - 1) .first)
+    → c .matches .result ≡ matches (c .before .before .before .before .before .before .before .before .before .before .before .before .before .before .before .args .c) (c .before .before .before .before .before .before .before .before .before .before .loop .i) (stageAt (c .before .before .before .before .before .before .before .before .before .before .loop .w .stages) (c .before .before .before .before .before .before .before .before .before .before .loop .i - 1) .first)
 judged c =
-    let loop-test = c .before .before .before .before .before .before .before .before .before .before .loop-test in
-    let pre = c .before .before .before .before .before .before .before .before .before .before .before .before .before .before .before .before .pre in
-    let args = c .before .before .before .before .before .before .before .before .before .before .before .before .before .before .before .before .args in
-    let loop = c .before .before .before .before .before .before .before .before .before .before .before .loop in
+    let loop-test = c .before .before .before .before .before .before .before .before .before .loop-test in
+    let pre = c .before .before .before .before .before .before .before .before .before .before .before .before .before .before .before .pre in
+    let args = c .before .before .before .before .before .before .before .before .before .before .before .before .before .before .before .args in
+    let loop = c .before .before .before .before .before .before .before .before .before .before .loop in
     c .matches .ensures (args .c .signature .key) (turn-shift (args .c) (args .k) (loop .i) _ (loop .w) (loop-test .taken) (loop .inv) (ripened (c .before .before .before .before .before .before)) (args .t3) (pre .2))
 
 none-requires : tie.Need-none-requires Inv-loop μ-loop
@@ -61,63 +61,60 @@ mul-s c = search needs
 element-copy-out-s : tie.Need-element-copy-out-s Inv-loop μ-loop
 element-copy-out-s c = omega (arith, c .before .loop .inv .most, c .before .loop .inv .within)
 
-prefix-length-requires : tie.Need-prefix-length-requires Inv-loop μ-loop
-prefix-length-requires c κs = search needs
-
 is-ripe-requires : tie.Need-is-ripe-requires Inv-loop μ-loop
 is-ripe-requires c κs = search needs
 
 take-off-requires : tie.Need-take-off-requires Inv-loop μ-loop
 take-off-requires c κs = search needs
 
-cast-t28 : tie.Need-cast-t28 Inv-loop μ-loop
-cast-t28 c =
-    let loop = c .before .before .before .before .before .before .before .loop in
+cast-t27 : tie.Need-cast-t27 Inv-loop μ-loop
+cast-t27 c =
+    let loop = c .before .before .before .before .before .before .loop in
     omega (arith, loop .inv .most, loop .inv .within)
 
-mul-t29 : tie.Need-mul-t29 Inv-loop μ-loop
-mul-t29 c =
-    let loop = c .before .before .before .before .before .before .before .loop in
+mul-t28 : tie.Need-mul-t28 Inv-loop μ-loop
+mul-t28 c =
+    let loop = c .before .before .before .before .before .before .loop in
     omega (arith, loop .inv .most, loop .inv .within)
 
 element-set-from-w : tie.Need-element-set-from-w Inv-loop μ-loop
 element-set-from-w c =
-    let loop = c .before .before .before .before .before .before .before .loop in
+    let loop = c .before .before .before .before .before .before .loop in
     omega (arith, loop .inv .most, loop .inv .within)
 
 add-w : tie.Need-add-w Inv-loop μ-loop
 add-w c =
-    let loop = c .before .before .before .before .before .before .before .loop in
+    let loop = c .before .before .before .before .before .before .loop in
     omega (arith, loop .inv .most, loop .inv .count)
 
 cast-matches : tie.Need-cast-matches Inv-loop μ-loop
 cast-matches c =
-    let loop = c .before .before .before .before .before .before .before .before .loop in
+    let loop = c .before .before .before .before .before .before .before .loop in
     omega (arith, loop .inv .most, loop .inv .within)
 
 mul-matches : tie.Need-mul-matches Inv-loop μ-loop
 mul-matches c =
-    let loop = c .before .before .before .before .before .before .before .before .loop in
+    let loop = c .before .before .before .before .before .before .before .loop in
     omega (arith, loop .inv .most, loop .inv .within)
 
 array-copy-out-matches : tie.Need-array-copy-out-matches Inv-loop μ-loop
 array-copy-out-matches c =
-    let loop = c .before .before .before .before .before .before .before .before .loop in
+    let loop = c .before .before .before .before .before .before .before .loop in
     omega (arith, loop .inv .most, loop .inv .within)
 
 cast-matches-2 : tie.Need-cast-matches-2 Inv-loop μ-loop
 cast-matches-2 c =
-    let loop = c .before .before .before .before .before .before .before .before .before .loop in
+    let loop = c .before .before .before .before .before .before .before .before .loop in
     omega (arith, loop .inv .most, loop .inv .within)
 
 mul-matches-2 : tie.Need-mul-matches-2 Inv-loop μ-loop
 mul-matches-2 c =
-    let loop = c .before .before .before .before .before .before .before .before .before .loop in
+    let loop = c .before .before .before .before .before .before .before .before .loop in
     omega (arith, loop .inv .most, loop .inv .within)
 
 array-copy-out-matches-2 : tie.Need-array-copy-out-matches-2 Inv-loop μ-loop
 array-copy-out-matches-2 c =
-    let loop = c .before .before .before .before .before .before .before .before .before .loop in
+    let loop = c .before .before .before .before .before .before .before .before .loop in
     omega (arith, loop .inv .most, loop .inv .within)
 
 matches-requires : tie.Need-matches-requires Inv-loop μ-loop
@@ -127,32 +124,32 @@ with-ring-requires : tie.Need-with-ring-requires Inv-loop μ-loop
 with-ring-requires c κs = search needs
 
 loop-less : tie.Need-loop-less Inv-loop μ-loop
-loop-less c = omega (arith, c .before .before .before .before .before .before .before .before .before .before .before .before .before .before .loop-test .taken)
+loop-less c = omega (arith, c .before .before .before .before .before .before .before .before .before .before .before .before .before .loop-test .taken)
 
 loop-again : tie.Need-loop-again Inv-loop μ-loop
 loop-again c =
     let take-off = c .before .before .before .before .before .before .before .before .take-off in
-    let loop-test = c .before .before .before .before .before .before .before .before .before .before .before .before .before .before .loop-test in
+    let loop-test = c .before .before .before .before .before .before .before .before .before .before .before .before .before .loop-test in
     let if2 = c .before .before .before .if2 in
     let if3 = c .before .before .if3 in
-    let args = c .before .before .before .before .before .before .before .before .before .before .before .before .before .before .before .before .before .before .before .before .args in
-    let loop = c .before .before .before .before .before .before .before .before .before .before .before .before .before .before .before .loop in
+    let args = c .before .before .before .before .before .before .before .before .before .before .before .before .before .before .before .before .before .before .before .args in
+    let loop = c .before .before .before .before .before .before .before .before .before .before .before .before .before .before .loop in
     rw (c .with-ring .ensures, add-one (loop .w .answer .comparisons))
     (turn-rung (args .c) (args .k) (loop .i) _ (loop .w) (loop-test .taken) (loop .inv) (ripened (c .before .before .before .before .before .before .before .before .before .before)) (take-off .result) (take-off .ensures) (sym (judged (c .before .before .before .before)) ∙ if2 .taken) (if3 .taken))
 
 cast-enter : tie.Need-cast-enter Inv-loop μ-loop
 cast-enter c =
-    let loop = c .before .before .before .before .before .before .before .before .before .before .before .before .before .loop in
+    let loop = c .before .before .before .before .before .before .before .before .before .before .before .before .loop in
     omega (arith, loop .inv .most, loop .inv .within)
 
 mul-enter : tie.Need-mul-enter Inv-loop μ-loop
 mul-enter c =
-    let loop = c .before .before .before .before .before .before .before .before .before .before .before .before .before .loop in
+    let loop = c .before .before .before .before .before .before .before .before .before .before .before .before .loop in
     omega (arith, loop .inv .most, loop .inv .within)
 
 element-copy-out-enter : tie.Need-element-copy-out-enter Inv-loop μ-loop
 element-copy-out-enter c =
-    let loop = c .before .before .before .before .before .before .before .before .before .before .before .before .before .loop in
+    let loop = c .before .before .before .before .before .before .before .before .before .before .before .before .loop in
     omega (arith, loop .inv .most, loop .inv .within)
 
 enter-requires : tie.Need-enter-requires Inv-loop μ-loop
@@ -160,17 +157,17 @@ enter-requires c κs = search needs
 
 cast-stage : tie.Need-cast-stage Inv-loop μ-loop
 cast-stage c =
-    let loop = c .before .before .before .before .before .before .before .before .before .before .before .before .before .before .before .before .loop in
+    let loop = c .before .before .before .before .before .before .before .before .before .before .before .before .before .before .before .loop in
     omega (arith, loop .inv .most, loop .inv .within)
 
 mul-stage : tie.Need-mul-stage Inv-loop μ-loop
 mul-stage c =
-    let loop = c .before .before .before .before .before .before .before .before .before .before .before .before .before .before .before .before .loop in
+    let loop = c .before .before .before .before .before .before .before .before .before .before .before .before .before .before .before .loop in
     omega (arith, loop .inv .most, loop .inv .within)
 
 element-set-from-stage : tie.Need-element-set-from-stage Inv-loop μ-loop
 element-set-from-stage c =
-    let loop = c .before .before .before .before .before .before .before .before .before .before .before .before .before .before .before .before .loop in
+    let loop = c .before .before .before .before .before .before .before .before .before .before .before .before .before .before .before .loop in
     omega (arith, loop .inv .most, loop .inv .within)
 
 enum-told : tie.Need-enum-told Inv-loop μ-loop
@@ -178,24 +175,24 @@ enum-told c = search needs
 
 with-requires : tie.Need-with-requires Inv-loop μ-loop
 with-requires c κs =
-    let loop-test = c .before .before .before .before .before .before .before .before .before .before .before .before .before .before .before .before .before .before .loop-test in
-    let loop = c .before .before .before .before .before .before .before .before .before .before .before .before .before .before .before .before .before .before .before .loop in
+    let loop-test = c .before .before .before .before .before .before .before .before .before .before .before .before .before .before .before .before .before .loop-test in
+    let loop = c .before .before .before .before .before .before .before .before .before .before .before .before .before .before .before .before .before .before .loop in
     omega (arith, loop .inv .room, loop .inv .most, loop-test .taken)
 
 loop-less-2 : tie.Need-loop-less-2 Inv-loop μ-loop
 loop-less-2 c =
-    let loop-test = c .before .before .before .before .before .before .before .before .before .before .before .before .before .before .before .before .before .before .before .loop-test in
+    let loop-test = c .before .before .before .before .before .before .before .before .before .before .before .before .before .before .before .before .before .before .loop-test in
     omega (arith, loop-test .taken)
 
 loop-again-2 : tie.Need-loop-again-2 Inv-loop μ-loop
 loop-again-2 c =
     let enter = c .before .before .before .before .before .enter in
     let take-off = c .before .before .before .before .before .before .before .before .before .before .before .before .before .take-off in
-    let loop-test = c .before .before .before .before .before .before .before .before .before .before .before .before .before .before .before .before .before .before .before .loop-test in
+    let loop-test = c .before .before .before .before .before .before .before .before .before .before .before .before .before .before .before .before .before .before .loop-test in
     let if2 = c .before .before .before .before .before .before .before .before .if2 in
     let if3 = c .before .before .before .before .before .before .before .if3 in
-    let args = c .before .before .before .before .before .before .before .before .before .before .before .before .before .before .before .before .before .before .before .before .before .before .before .before .before .args in
-    let loop = c .before .before .before .before .before .before .before .before .before .before .before .before .before .before .before .before .before .before .before .before .loop in
+    let args = c .before .before .before .before .before .before .before .before .before .before .before .before .before .before .before .before .before .before .before .before .before .before .before .before .args in
+    let loop = c .before .before .before .before .before .before .before .before .before .before .before .before .before .before .before .before .before .before .before .loop in
     (turn-entered (args .c) (args .k) (loop .i) _ (loop .w) (loop-test .taken) (loop .inv) (ripened (c .before .before .before .before .before .before .before .before .before .before .before .before .before .before .before)) (take-off .result) (take-off .ensures) (sym (judged (c .before .before .before .before .before .before .before .before .before)) ∙ if2 .taken) (if3 .left)
     (enter .result) (enter .ensures) _ (rw add-one at (c .with .ensures)))
 
@@ -204,43 +201,43 @@ enum-told-2 c = search needs
 
 loop-less-3 : tie.Need-loop-less-3 Inv-loop μ-loop
 loop-less-3 c =
-    let loop-test = c .before .before .before .before .before .before .before .before .before .before .before .before .before .before .before .before .before .loop-test in
+    let loop-test = c .before .before .before .before .before .before .before .before .before .before .before .before .before .before .before .before .loop-test in
     omega (arith, loop-test .taken)
 
 loop-again-3 : tie.Need-loop-again-3 Inv-loop μ-loop
 loop-again-3 c =
     let enter = c .before .before .before .enter in
     let take-off = c .before .before .before .before .before .before .before .before .before .before .before .take-off in
-    let loop-test = c .before .before .before .before .before .before .before .before .before .before .before .before .before .before .before .before .before .loop-test in
+    let loop-test = c .before .before .before .before .before .before .before .before .before .before .before .before .before .before .before .before .loop-test in
     let if2 = c .before .before .before .before .before .before .if2 in
     let if3 = c .before .before .before .before .before .if3 in
-    let args = c .before .before .before .before .before .before .before .before .before .before .before .before .before .before .before .before .before .before .before .before .before .before .before .args in
-    let loop = c .before .before .before .before .before .before .before .before .before .before .before .before .before .before .before .before .before .before .loop in
+    let args = c .before .before .before .before .before .before .before .before .before .before .before .before .before .before .before .before .before .before .before .before .before .before .args in
+    let loop = c .before .before .before .before .before .before .before .before .before .before .before .before .before .before .before .before .before .loop in
     rw (add-one (loop .w .answer .comparisons))
     (turn-entered (args .c) (args .k) (loop .i) _ (loop .w) (loop-test .taken) (loop .inv) (ripened (c .before .before .before .before .before .before .before .before .before .before .before .before .before)) (take-off .result) (take-off .ensures) (sym (judged (c .before .before .before .before .before .before .before)) ∙ if2 .taken) (if3 .left)
     (enter .result) (enter .ensures) _ (rw (c .enum-told2 .given .1)))
 
 loop-less-4 : tie.Need-loop-less-4 Inv-loop μ-loop
-loop-less-4 c = omega (arith, c .before .before .before .before .before .before .before .before .before .before .before .loop-test .taken)
+loop-less-4 c = omega (arith, c .before .before .before .before .before .before .before .before .before .before .loop-test .taken)
 
 loop-again-4 : tie.Need-loop-again-4 Inv-loop μ-loop
 loop-again-4 c =
     let take-off = c .before .before .before .before .before .take-off in
-    let loop-test = c .before .before .before .before .before .before .before .before .before .before .before .loop-test in
-    let args = c .before .before .before .before .before .before .before .before .before .before .before .before .before .before .before .before .before .args in
-    let loop = c .before .before .before .before .before .before .before .before .before .before .before .before .loop in
+    let loop-test = c .before .before .before .before .before .before .before .before .before .before .loop-test in
+    let args = c .before .before .before .before .before .before .before .before .before .before .before .before .before .before .before .before .args in
+    let loop = c .before .before .before .before .before .before .before .before .before .before .before .loop in
     rw add-one (turn-dropped (args .c) (args .k) (loop .i) _ (loop .w) (loop-test .taken) (loop .inv) (ripened (c .before .before .before .before .before .before .before)) (take-off .result) (take-off .ensures) (sym (judged (c .before)) ∙ c .if2 .left))
 
 loop-less-5 : tie.Need-loop-less-5 Inv-loop μ-loop
-loop-less-5 c = omega (arith, c .before .before .before .before .loop-test .taken)
+loop-less-5 c = omega (arith, c .before .before .before .loop-test .taken)
 
 loop-again-5 : tie.Need-loop-again-5 Inv-loop μ-loop
 loop-again-5 c =
-    let loop-test = c .before .before .before .before .loop-test in
-    let args = c .before .before .before .before .before .before .before .before .before .before .args in
-    let loop = c .before .before .before .before .before .loop in
+    let loop-test = c .before .before .before .loop-test in
+    let args = c .before .before .before .before .before .before .before .before .before .args in
+    let loop = c .before .before .before .before .loop in
     turn-unripe (args .c) (args .k) (loop .i) _ (loop .w) (loop-test .taken) (loop .inv)
-    (rw (c .before .before .prefix-length .ensures) at (sym (c .before .is-ripe .ensures) ∙ c .if1 .left))
+    (sym (c .before .is-ripe .ensures) ∙ c .if1 .left)
 
 returns : tie.Need-returns Inv-loop μ-loop
 returns c =
@@ -260,11 +257,10 @@ descend-spec =
     cast-s
     mul-s
     element-copy-out-s
-    prefix-length-requires
     is-ripe-requires
     take-off-requires
-    cast-t28
-    mul-t29
+    cast-t27
+    mul-t28
     element-set-from-w
     add-w
     cast-matches

@@ -32,11 +32,8 @@ mul-stage c = search needs
 array-copy-out-stage : tie.Need-array-copy-out-stage Inv-loop μ-loop
 array-copy-out-stage c = search needs
 
-add-prefix-length : tie.Need-add-prefix-length Inv-loop μ-loop
-add-prefix-length c = search needs
-
-prefix-length-requires : tie.Need-prefix-length-requires Inv-loop μ-loop
-prefix-length-requires c κs = search needs
+add-quiet-until : tie.Need-add-quiet-until Inv-loop μ-loop
+add-quiet-until c = search needs
 
 quiet-until-requires : tie.Need-quiet-until-requires Inv-loop μ-loop
 quiet-until-requires c κs = search needs
@@ -49,10 +46,10 @@ loop-less c = search needs
 
 loop-again : tie.Need-loop-again Inv-loop μ-loop
 loop-again c =
-    let loop = c .before .before .before .before .loop in
-    let args = c .before .before .before .before .before .before .args in
-    let pre = c .before .before .before .before .before .before .pre in
-    let quiet = rw (c .before .prefix-length .ensures, add-one) at (c .quiet-until .ensures) in
+    let loop = c .before .before .before .loop in
+    let args = c .before .before .before .before .before .args in
+    let pre = c .before .before .before .before .before .pre in
+    let quiet = rw add-one at (c .quiet-until .ensures) in
     (omega arith, loop .inv .1, unripe-more (loop .i) (args .m) (args .t1) (pre .0) quiet (loop .inv .2))
 
 returns : tie.Need-returns Inv-loop μ-loop
@@ -69,8 +66,7 @@ quiet-until-spec =
     cast-stage
     mul-stage
     array-copy-out-stage
-    add-prefix-length
-    prefix-length-requires
+    add-quiet-until
     quiet-until-requires
     add-i
     loop-less

@@ -1,10 +1,11 @@
--- `stage::reach_fits` meets its contract.
-use borrow.Author.Tests.{ne-eqb}
-use native.Mathlib.Omega.{arith}
+-- `stage::reach_fits` meets its contract: the product of two 32-bit numbers fits 64 bits.
+use Prim.Native.Nat.{_+_, _*_}
 use mathlib.Core.Path.{sym}
-use Prim.Native.Nat.{_+_, _-_, _*_}
-use Rattle.stage.proofs.Tests.{equal-reach, too-short, long-enough}
+use native.Mathlib.Omega.{arith}
 use borrow.Author.Needs.{needs}
+use borrow.Author.Tests.{ne-eqb}
+use Rattle.fingerprint.proofs.Modular.{product-wide}
+use Rattle.stage.proofs.Tests.{equal-reach}
 use Rattle.stage.proofs.reach_fits.Statement.{statement}
 use Rattle.stage.proofs.reach_fits.Tie as tie
 
@@ -13,24 +14,18 @@ returns c =
     let a = c .before .args in
     sym (ne-eqb (a .last) (a .first + a .n * a .step) (λ e. omega arith))
 
-div-if2 : tie.Need-div-if2
-div-if2 c = search needs
-
-returns-2 : tie.Need-returns-2
-returns-2 c =
-    let a = c .before .before .args in
-    let short = too-short (a .last - a .first) (a .n) (a .step) (c .before .before .pre) (c .if2 .taken) in
-    sym (ne-eqb (a .last) (a .first + a .n * a .step) (λ e. omega arith))
+cast-result : tie.Need-cast-result
+cast-result c = search needs
 
 mul-result : tie.Need-mul-result
 mul-result c =
-    let a = c .before .before .args in
-    omega (arith, long-enough (a .last - a .first) (a .n) (a .step) (c .before .before .pre) (c .if2 .left))
+    let a = c .before .args in
+    omega (arith, product-wide {a = a .n} {b = a .step} (omega arith) (omega arith))
 
-returns-3 : tie.Need-returns-3
-returns-3 c =
-    let a = c .before .before .args in
+returns-2 : tie.Need-returns-2
+returns-2 c =
+    let a = c .before .args in
     equal-reach (a .last) (a .first) (a .n * a .step) (omega arith)
 
 pub reach-fits-spec : {M : Type 1} → statement M
-reach-fits-spec = tie.close (tie.spec returns div-if2 returns-2 mul-result returns-3)
+reach-fits-spec = tie.close (tie.spec returns cast-result mul-result returns-2)

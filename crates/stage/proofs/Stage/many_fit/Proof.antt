@@ -50,7 +50,7 @@ sub-reach-fits : tie.Need-sub-reach-fits
 sub-reach-fits c = search needs
 
 reach-fits-requires : tie.Need-reach-fits-requires
-reach-fits-requires c κs = omega arith
+reach-fits-requires c κs = search needs
 
 returns-5 : tie.Need-returns-5
 unfolding manyFit

@@ -8,11 +8,14 @@ use Rattle.stage.proofs.Stage.quiet_until.Tie as tie
 returns : tie.Need-returns
 returns c = rw (eq-eqb _ 0 (c .if1 .taken))
 
+prefix-length-requires : tie.Need-prefix-length-requires
+prefix-length-requires c κs = search needs
+
 returns-2 : tie.Need-returns-2
-returns-2 c = rw (ne-eqb _ 0 (c .before .if1 .left)) (omega arith)
+returns-2 c = rw (ne-eqb _ 0 (c .before .before .if1 .left)) (omega (arith, c .before .prefix-length .ensures))
 
 returns-3 : tie.Need-returns-3
-returns-3 c = rw (ne-eqb _ 0 (c .before .before .before .if1 .left)) (omega arith)
+returns-3 c = rw (ne-eqb _ 0 (c .before .before .before .before .if1 .left)) (omega (arith, c .before .before .before .prefix-length .ensures))
 
 add-distance : tie.Need-add-distance
 add-distance c = search needs
@@ -21,8 +24,10 @@ distance-requires : tie.Need-distance-requires
 distance-requires c κs = search needs
 
 returns-4 : tie.Need-returns-4
-returns-4 c = rw (ne-eqb _ 0 (c .before .before .before .before .before .if1 .left)) (omega arith)
+returns-4 c =
+    rw (ne-eqb _ 0 (c .before .before .before .before .before .before .if1 .left))
+    (omega (arith, c .before .before .before .before .before .prefix-length .ensures))
 
 pub quiet-until-spec : {M : Type 1} → statement M
 quiet-until-spec =
-    tie.close (tie.spec returns returns-2 returns-3 add-distance distance-requires returns-4)
+    tie.close (tie.spec returns prefix-length-requires returns-2 returns-3 add-distance distance-requires returns-4)
