@@ -105,7 +105,8 @@ pub record Skips (w : Matcher) (n : ℕ) (bytes : List ℕ) (now : Mark) : Type 
   pub same : scanned w bytes ≡ ahead taken taken (scanned (movedOn w now) (drop taken bytes))
 
 -- The byte b, at which no start is ripe, and which is not P_0.
-module _ (w : Matcher) (b : ℕ) (fits : matcherFits w ≡ true) (room : w .now .at < maxTaken) (unripe : Calm w (suc (w .now .at))) (other : same (getD (w .signature .prints) 0 empty) (bytePrint b) ≡ false) where
+module _ (w : Matcher) (b : ℕ) (fits : matcherFits w ≡ true) (room : w .now .at < maxTaken) (unripe : Calm w (suc (w .now .at)))
+    (other : same (getD (w .signature .prints) 0 empty) (bytePrint b) ≡ false) where
   abbrev next : Mark
   next = nextMark (w .signature .key) (w .now) b
 

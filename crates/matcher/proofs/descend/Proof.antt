@@ -24,21 +24,25 @@ abbrev μ-loop : tie.MeasureT-loop
 -- the stage visited has a ripe start
 ripened :
     (c : tie.Then1 Inv-loop μ-loop)
-    → ripeAt (prefixLength (c .before .before .before .before .before .before .before .before .before .args .c .signature .length) (c .before .before .before .before .loop .i)) (c .before .before .before .before .before .before .before .before .before .args .c .now .at)
-    (stageAt (c .before .before .before .before .loop .w .stages) (c .before .before .before .before .loop .i - 1))
-    ≡ true
+    → let args = c .before .before .before .before .before .before .before .before .before .args in
+    let loop = c .before .before .before .before .loop in
+    ripeAt (prefixLength (args .c .signature .length) (loop .i)) (args .c .now .at) (stageAt (loop .w .stages) (loop .i - 1)) ≡ true
 ripened c = sym (c .before .is-ripe .ensures) ∙ c .if1 .taken
 
 -- the comparison is that of the start's block with the beginning above
 judged :
     (c : tie.After-matches Inv-loop μ-loop)
-    → c .matches .result ≡ matches (c .before .before .before .before .before .before .before .before .before .before .before .before .before .before .before .args .c) (c .before .before .before .before .before .before .before .before .before .before .loop .i) (stageAt (c .before .before .before .before .before .before .before .before .before .before .loop .w .stages) (c .before .before .before .before .before .before .before .before .before .before .loop .i - 1) .first)
+    → let far = c .before .before .before .before .before .before .before .before in
+    let loop = far .before .before .loop in
+    c .matches .result ≡ matches (far .before .before .before .before .before .before .before .args .c) (loop .i) (stageAt (loop .w .stages) (loop .i - 1) .first)
 judged c =
-    let loop-test = c .before .before .before .before .before .before .before .before .before .loop-test in
-    let pre = c .before .before .before .before .before .before .before .before .before .before .before .before .before .before .before .pre in
-    let args = c .before .before .before .before .before .before .before .before .before .before .before .before .before .before .before .args in
-    let loop = c .before .before .before .before .before .before .before .before .before .before .loop in
-    c .matches .ensures (args .c .signature .key) (turn-shift (args .c) (args .k) (loop .i) _ (loop .w) (loop-test .taken) (loop .inv) (ripened (c .before .before .before .before .before .before)) (args .t3) (pre .2))
+    let far = c .before .before .before .before .before .before .before .before in
+    let loop-test = far .before .loop-test in
+    let pre = far .before .before .before .before .before .before .before .pre in
+    let args = far .before .before .before .before .before .before .before .args in
+    let loop = far .before .before .loop in
+    c .matches .ensures (args .c .signature .key) (turn-shift (args .c) (args .k) (loop .i) _ (loop .w) (loop-test .taken) (loop .inv)
+    (ripened (c .before .before .before .before .before .before)) (args .t3) (pre .2))
 
 none-requires : tie.Need-none-requires Inv-loop μ-loop
 none-requires c κs = search needs
@@ -124,18 +128,25 @@ with-ring-requires : tie.Need-with-ring-requires Inv-loop μ-loop
 with-ring-requires c κs = search needs
 
 loop-less : tie.Need-loop-less Inv-loop μ-loop
-loop-less c = omega (arith, c .before .before .before .before .before .before .before .before .before .before .before .before .before .loop-test .taken)
+loop-less c =
+    let far = c .before .before .before .before .before .before .before .before in
+    omega (arith, far .before .before .before .before .before .loop-test .taken)
 
 loop-again : tie.Need-loop-again Inv-loop μ-loop
 loop-again c =
-    let take-off = c .before .before .before .before .before .before .before .before .take-off in
-    let loop-test = c .before .before .before .before .before .before .before .before .before .before .before .before .before .loop-test in
+    let far = c .before .before .before .before .before .before .before .before in
+    let farther = far .before .before .before .before .before .before .before .before in
+    let take-off = far .take-off in
+    let loop-test = far .before .before .before .before .before .loop-test in
     let if2 = c .before .before .before .if2 in
     let if3 = c .before .before .if3 in
-    let args = c .before .before .before .before .before .before .before .before .before .before .before .before .before .before .before .before .before .before .before .args in
-    let loop = c .before .before .before .before .before .before .before .before .before .before .before .before .before .before .loop in
+    let args = farther .before .before .before .args in
+    let loop = far .before .before .before .before .before .before .loop in
     rw (c .with-ring .ensures, add-one (loop .w .answer .comparisons))
-    (turn-rung (args .c) (args .k) (loop .i) _ (loop .w) (loop-test .taken) (loop .inv) (ripened (c .before .before .before .before .before .before .before .before .before .before)) (take-off .result) (take-off .ensures) (sym (judged (c .before .before .before .before)) ∙ if2 .taken) (if3 .taken))
+    (turn-rung (args .c) (args .k) (loop .i) _ (loop .w) (loop-test .taken) (loop .inv)
+    (ripened (far .before .before))
+    (take-off .result) (take-off .ensures)
+    (sym (judged (c .before .before .before .before)) ∙ if2 .taken) (if3 .taken))
 
 cast-enter : tie.Need-cast-enter Inv-loop μ-loop
 cast-enter c =
@@ -175,25 +186,34 @@ enum-told c = search needs
 
 with-requires : tie.Need-with-requires Inv-loop μ-loop
 with-requires c κs =
-    let loop-test = c .before .before .before .before .before .before .before .before .before .before .before .before .before .before .before .before .before .loop-test in
-    let loop = c .before .before .before .before .before .before .before .before .before .before .before .before .before .before .before .before .before .before .loop in
+    let far = c .before .before .before .before .before .before .before .before in
+    let farther = far .before .before .before .before .before .before .before .before in
+    let loop-test = farther .before .loop-test in
+    let loop = farther .before .before .loop in
     omega (arith, loop .inv .room, loop .inv .most, loop-test .taken)
 
 loop-less-2 : tie.Need-loop-less-2 Inv-loop μ-loop
 loop-less-2 c =
-    let loop-test = c .before .before .before .before .before .before .before .before .before .before .before .before .before .before .before .before .before .before .loop-test in
+    let far = c .before .before .before .before .before .before .before .before in
+    let farther = far .before .before .before .before .before .before .before .before in
+    let loop-test = farther .before .before .loop-test in
     omega (arith, loop-test .taken)
 
 loop-again-2 : tie.Need-loop-again-2 Inv-loop μ-loop
 loop-again-2 c =
+    let far = c .before .before .before .before .before .before .before .before in
+    let farther = far .before .before .before .before .before .before .before .before in
     let enter = c .before .before .before .before .before .enter in
-    let take-off = c .before .before .before .before .before .before .before .before .before .before .before .before .before .take-off in
-    let loop-test = c .before .before .before .before .before .before .before .before .before .before .before .before .before .before .before .before .before .before .loop-test in
-    let if2 = c .before .before .before .before .before .before .before .before .if2 in
+    let take-off = far .before .before .before .before .before .take-off in
+    let loop-test = farther .before .before .loop-test in
+    let if2 = far .if2 in
     let if3 = c .before .before .before .before .before .before .before .if3 in
-    let args = c .before .before .before .before .before .before .before .before .before .before .before .before .before .before .before .before .before .before .before .before .before .before .before .before .args in
-    let loop = c .before .before .before .before .before .before .before .before .before .before .before .before .before .before .before .before .before .before .before .loop in
-    (turn-entered (args .c) (args .k) (loop .i) _ (loop .w) (loop-test .taken) (loop .inv) (ripened (c .before .before .before .before .before .before .before .before .before .before .before .before .before .before .before)) (take-off .result) (take-off .ensures) (sym (judged (c .before .before .before .before .before .before .before .before .before)) ∙ if2 .taken) (if3 .left)
+    let args = farther .before .before .before .before .before .before .before .before .args in
+    let loop = farther .before .before .before .loop in
+    (turn-entered (args .c) (args .k) (loop .i) _ (loop .w) (loop-test .taken) (loop .inv)
+    (ripened (far .before .before .before .before .before .before .before))
+    (take-off .result) (take-off .ensures)
+    (sym (judged (far .before)) ∙ if2 .taken) (if3 .left)
     (enter .result) (enter .ensures) _ (rw add-one at (c .with .ensures)))
 
 enum-told-2 : tie.Need-enum-told-2 Inv-loop μ-loop
@@ -201,20 +221,27 @@ enum-told-2 c = search needs
 
 loop-less-3 : tie.Need-loop-less-3 Inv-loop μ-loop
 loop-less-3 c =
-    let loop-test = c .before .before .before .before .before .before .before .before .before .before .before .before .before .before .before .before .loop-test in
+    let far = c .before .before .before .before .before .before .before .before in
+    let farther = far .before .before .before .before .before .before .before .before in
+    let loop-test = farther .loop-test in
     omega (arith, loop-test .taken)
 
 loop-again-3 : tie.Need-loop-again-3 Inv-loop μ-loop
 loop-again-3 c =
+    let far = c .before .before .before .before .before .before .before .before in
+    let farther = far .before .before .before .before .before .before .before .before in
     let enter = c .before .before .before .enter in
-    let take-off = c .before .before .before .before .before .before .before .before .before .before .before .take-off in
-    let loop-test = c .before .before .before .before .before .before .before .before .before .before .before .before .before .before .before .before .loop-test in
+    let take-off = far .before .before .before .take-off in
+    let loop-test = farther .loop-test in
     let if2 = c .before .before .before .before .before .before .if2 in
     let if3 = c .before .before .before .before .before .if3 in
-    let args = c .before .before .before .before .before .before .before .before .before .before .before .before .before .before .before .before .before .before .before .before .before .before .args in
-    let loop = c .before .before .before .before .before .before .before .before .before .before .before .before .before .before .before .before .before .loop in
+    let args = farther .before .before .before .before .before .before .args in
+    let loop = farther .before .loop in
     rw (add-one (loop .w .answer .comparisons))
-    (turn-entered (args .c) (args .k) (loop .i) _ (loop .w) (loop-test .taken) (loop .inv) (ripened (c .before .before .before .before .before .before .before .before .before .before .before .before .before)) (take-off .result) (take-off .ensures) (sym (judged (c .before .before .before .before .before .before .before)) ∙ if2 .taken) (if3 .left)
+    (turn-entered (args .c) (args .k) (loop .i) _ (loop .w) (loop-test .taken) (loop .inv)
+    (ripened (far .before .before .before .before .before))
+    (take-off .result) (take-off .ensures)
+    (sym (judged (c .before .before .before .before .before .before .before)) ∙ if2 .taken) (if3 .left)
     (enter .result) (enter .ensures) _ (rw (c .enum-told2 .given .1)))
 
 loop-less-4 : tie.Need-loop-less-4 Inv-loop μ-loop
@@ -222,11 +249,16 @@ loop-less-4 c = omega (arith, c .before .before .before .before .before .before 
 
 loop-again-4 : tie.Need-loop-again-4 Inv-loop μ-loop
 loop-again-4 c =
+    let far = c .before .before .before .before .before .before .before .before in
+    let farther = far .before .before .before .before .before .before .before .before in
     let take-off = c .before .before .before .before .before .take-off in
-    let loop-test = c .before .before .before .before .before .before .before .before .before .before .loop-test in
-    let args = c .before .before .before .before .before .before .before .before .before .before .before .before .before .before .before .before .args in
-    let loop = c .before .before .before .before .before .before .before .before .before .before .before .loop in
-    rw add-one (turn-dropped (args .c) (args .k) (loop .i) _ (loop .w) (loop-test .taken) (loop .inv) (ripened (c .before .before .before .before .before .before .before)) (take-off .result) (take-off .ensures) (sym (judged (c .before)) ∙ c .if2 .left))
+    let loop-test = far .before .before .loop-test in
+    let args = farther .args in
+    let loop = far .before .before .before .loop in
+    rw add-one (turn-dropped (args .c) (args .k) (loop .i) _ (loop .w) (loop-test .taken) (loop .inv)
+    (ripened (c .before .before .before .before .before .before .before))
+    (take-off .result) (take-off .ensures)
+    (sym (judged (c .before)) ∙ c .if2 .left))
 
 loop-less-5 : tie.Need-loop-less-5 Inv-loop μ-loop
 loop-less-5 c = omega (arith, c .before .before .before .loop-test .taken)

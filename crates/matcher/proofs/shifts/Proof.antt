@@ -74,7 +74,8 @@ returns c =
     let args = c .before .before .before .before .before .before .args in
     let levels = c .before .before .before .before .before .levels in
     let loop = c .before .before .loop in
-    doubling-end (args .key) (levels .result) (loop .i) (loop .shifts) (loop .square) (loop .inv) (args .m) (c .power2 .result) (levels .ensures) (omega (arith, c .before .loop-test .left)) (c .power2 .ensures)
+    doubling-end (args .key) (levels .result) (loop .i) (loop .shifts) (loop .square) (loop .inv) (args .m)
+    (c .power2 .result) (levels .ensures) (omega (arith, c .before .loop-test .left)) (c .power2 .ensures)
 
 pub shifts-spec : {M : Type 1} → statement M
 shifts-spec =

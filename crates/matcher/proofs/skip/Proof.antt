@@ -12,7 +12,12 @@ use Rattle.matcher.proofs.skip.Statement.{statement}
 use Rattle.matcher.proofs.skip.Tie as tie
 
 abbrev Inv-loop : tie.InvT-loop
-Inv-loop key first until input from end at₀ mark₀ at mark = (at ≤ end) × (end ≤ length input) × (mark .at + (end - at) ≤ maxTaken) × (skipped key first (end - at) mark (drop at input) ≡ skipped key first (min (until - mark₀ .at) (length input - from)) mark₀ (drop from input))
+Inv-loop key first until input from end at₀ mark₀ at mark =
+    (at ≤ end)
+    × (end ≤ length input)
+    × (mark .at + (end - at) ≤ maxTaken)
+    × (skipped key first (end - at) mark (drop at input)
+    ≡ skipped key first (min (until - mark₀ .at) (length input - from)) mark₀ (drop from input))
 
 abbrev μ-loop : tie.MeasureT-loop
 μ-loop key first until input from end at₀ mark₀ at mark = end - at

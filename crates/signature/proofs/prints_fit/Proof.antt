@@ -51,13 +51,18 @@ place-fits-requires c κs = search needs
 returns-2 : tie.Need-returns-2 Inv-loop μ-loop
 unfolding printsFit
 returns-2 c =
-    let a = c .before .before .before .before .before .before .before .before .before .before .args in
+    let far = c .before .before .before .before .before .before .before .before in
+    let a = far .before .before .args in
     let i = c .before .before .before .before .before .loop .i in
     let fails : placeFits (a .m) (a .taken) (a .t1) i ≡ false =
     rw (← c .before .before .reaches .ensures) (sym (c .before .place-fits .ensures) ∙ not-true _ (c .if2 .taken))
     in
     let start = c .before .before .before .before .before .before .before in
-    rw (← start .before .is-of-byte .ensures, not-false (start .before .is-of-byte .result) (start .if1 .left), every-fails (placeFits (a .m) (a .taken) (a .t1)) 21 i (c .before .before .before .before .loop-test .taken) fails)
+    rw (
+      ← start .before .is-of-byte .ensures,
+      not-false (start .before .is-of-byte .result) (start .if1 .left),
+      every-fails (placeFits (a .m) (a .taken) (a .t1)) 21 i (c .before .before .before .before .loop-test .taken) fails,
+    )
 
 add-i : tie.Need-add-i Inv-loop μ-loop
 add-i c = search needs
@@ -79,7 +84,11 @@ unfolding printsFit
 returns-3 c =
     let end : c .before .loop .i ≡ 21 = omega arith in
     let start = c .before .before .before in
-    rw (← start .before .is-of-byte .ensures, not-false (start .before .is-of-byte .result) (start .if1 .left)) (sym (rw end at (c .before .loop .inv .1)))
+    rw (
+      ← start .before .is-of-byte .ensures,
+      not-false (start .before .is-of-byte .result) (start .if1 .left),
+    )
+    (sym (rw end at (c .before .loop .inv .1)))
 
 pub prints-fit-spec : {M : Type 1} → statement M
 prints-fit-spec =

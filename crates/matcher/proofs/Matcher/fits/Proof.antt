@@ -32,7 +32,14 @@ returns-3 c =
     let if1 = c .before .before .before .before .if1 in
     let fits3 = c .before .before .before .fits3 in
     let if2 = c .before .before .if2 in
-    rw (← fits2 .ensures, not-false (fits2 .result) (if1 .left), ← fits3 .ensures, not-false (fits3 .result) (if2 .left), ← c .before .running-fits .ensures, not-true (c .before .running-fits .result) (c .if3 .taken))
+    rw (
+      ← fits2 .ensures,
+      not-false (fits2 .result) (if1 .left),
+      ← fits3 .ensures,
+      not-false (fits3 .result) (if2 .left),
+      ← c .before .running-fits .ensures,
+      not-true (c .before .running-fits .result) (c .if3 .taken),
+    )
 
 stages-fit-requires : tie.Need-stages-fit-requires
 stages-fit-requires c κs = search needs
@@ -46,7 +53,15 @@ returns-4 c =
     let if2 = c .before .before .before .before .if2 in
     let running-fits = c .before .before .before .running-fits in
     let if3 = c .before .before .if3 in
-    rw (← fits2 .ensures, not-false (fits2 .result) (if1 .left), ← fits3 .ensures, not-false (fits3 .result) (if2 .left), ← running-fits .ensures, not-false (running-fits .result) (if3 .left)) (c .stages-fit .ensures)
+    rw (
+      ← fits2 .ensures,
+      not-false (fits2 .result) (if1 .left),
+      ← fits3 .ensures,
+      not-false (fits3 .result) (if2 .left),
+      ← running-fits .ensures,
+      not-false (running-fits .result) (if3 .left),
+    )
+    (c .stages-fit .ensures)
 
 pub fits-spec : {M : Type 1} → statement M
 fits-spec =

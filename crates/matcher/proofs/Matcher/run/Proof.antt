@@ -21,12 +21,15 @@ abbrev μ-loop : tie.MeasureT-loop
 -- the run once bytes were passed over
 passed :
     (c : tie.After-distance Inv-loop μ-loop)
-    → Running (c .before .before .before .before .before .before .before .before .before .before .before .before .args .self) (c .before .before .before .before .before .before .before .before .before .before .before .before .args .input .now) (c .before .before .before .before .before .before .before .before .before .before .before .before .args .from)
-    (record { signature = c .before .before .before .before .before .before .before .before .before .before .before .before .args .self .signature; now = c .before .skip .result; stages = c .before .before .before .before .loop .stages })
-    (c .before .before .before .before .loop .at + c .distance .result)
-    (c .before .before .before .before .loop .comparisons + c .distance .result)
+    → let args = c .before .before .before .before .before .before .before .before .before .before .before .before .args in
+    let loop = c .before .before .before .before .loop in
+    Running (args .self) (args .input .now) (args .from)
+    (record { signature = args .self .signature; now = c .before .skip .result; stages = loop .stages })
+    (loop .at + c .distance .result)
+    (loop .comparisons + c .distance .result)
 passed c =
-    let args = c .before .before .before .before .before .before .before .before .before .before .before .before .args in
+    let far = c .before .before .before .before .before .before .before .before in
+    let args = far .before .before .before .before .args in
     let loop = c .before .before .before .before .loop in
     let quiet-until = c .before .before .quiet-until in
     rw (c .distance .ensures)
@@ -50,7 +53,8 @@ loop-holds c =
 
 quiet-until-requires : tie.Need-quiet-until-requires Inv-loop μ-loop
 quiet-until-requires c κs =
-    let args = c .before .before .before .before .before .before .before .before .before .args in
+    let far = c .before .before .before .before .before .before .before .before in
+    let args = far .before .args in
     let q = sound (record { signature = args .self .signature; now = c .before .loop .now; stages = c .before .loop .stages }) (c .before .loop .inv .fits) in
     (card-of q .long, card-of q .short)
 
@@ -80,7 +84,9 @@ silent-requires c κs = search needs
 
 returns : tie.Need-returns Inv-loop μ-loop
 returns c =
-    let args = c .before .before .before .before .before .before .before .before .before .before .before .before .before .before .before .before .before .args in
+    let far = c .before .before .before .before .before .before .before .before in
+    let farther = far .before .before .before .before .before .before .before .before in
+    let args = farther .before .args in
     let if1 = c .before .before .before .before .if1 in
     rw (c .silent .ensures, c .before .moved .ensures)
     (run-spent (args .self) (args .input .now) (args .from) _ _ _ (passed (c .before .before .before .before .before)) (if1 .taken) (c .before .before .if2 .taken))
@@ -105,12 +111,14 @@ cast-comparisons-2 c = search needs
 
 add-comparisons-2 : tie.Need-add-comparisons-2 Inv-loop μ-loop
 add-comparisons-2 c =
+    let far = c .before .before .before .before .before .before .before .before in
+    let farther = far .before .before .before .before .before .before .before .before in
     let if2 = c .before .before .before .before .before .before .if2 in
     let climb = c .before .before .before .climb in
     let next-mark = c .before .before .before .before .next-mark in
-    let args = c .before .before .before .before .before .before .before .before .before .before .before .before .before .before .before .before .before .before .before .before .before .args in
-    let if1 = c .before .before .before .before .before .before .before .before .if1 in
-    let q = passed (c .before .before .before .before .before .before .before .before .before) in
+    let args = farther .before .before .before .before .before .args in
+    let if1 = far .if1 in
+    let q = passed (far .before) in
     let fresh = if2 .left in
     rw (climb .ensures, next-mark .ensures)
     (omega (arith, q .few, fresh, run-count (args .self) (args .input .now) (args .from) _ _ _ q (if1 .taken) fresh))
@@ -123,13 +131,15 @@ moved-requires-2 c κs = search needs
 
 returns-2 : tie.Need-returns-2 Inv-loop μ-loop
 returns-2 c =
+    let far = c .before .before .before .before .before .before .before .before in
+    let farther = far .before .before .before .before .before .before .before .before in
     let climb = c .before .before .before .before .before .before .climb in
     let next-mark = c .before .before .before .before .before .before .before .next-mark in
-    let args = c .before .before .before .before .before .before .before .before .before .before .before .before .before .before .before .before .before .before .before .before .before .before .before .before .args in
-    let if1 = c .before .before .before .before .before .before .before .before .before .before .before .if1 in
-    let if2 = c .before .before .before .before .before .before .before .before .before .if2 in
+    let args = farther .before .before .before .before .before .before .before .before .args in
+    let if1 = far .before .before .before .if1 in
+    let if2 = far .before .if2 in
     rw (c .moved2 .ensures, climb .ensures, next-mark .ensures)
-    (run-report (args .self) (args .input .now) (args .from) _ _ _ (passed (c .before .before .before .before .before .before .before .before .before .before .before .before)) (if1 .taken) (if2 .left)
+    (run-report (args .self) (args .input .now) (args .from) _ _ _ (passed (far .before .before .before .before)) (if1 .taken) (if2 .left)
     (rw (climb .ensures, next-mark .ensures) at (sym (c .before .before .is-silent .ensures) ∙ not-true _ (c .before .if3 .taken))))
 
 loop-less : tie.Need-loop-less Inv-loop μ-loop
@@ -137,13 +147,15 @@ loop-less c = omega (arith, c .before .before .before .before .before .before .b
 
 loop-again : tie.Need-loop-again Inv-loop μ-loop
 loop-again c =
+    let far = c .before .before .before .before .before .before .before .before in
+    let farther = far .before .before .before .before .before .before .before .before in
     let climb = c .before .before .before .before .before .climb in
     let next-mark = c .before .before .before .before .before .before .next-mark in
-    let args = c .before .before .before .before .before .before .before .before .before .before .before .before .before .before .before .before .before .before .before .before .before .before .before .args in
-    let if1 = c .before .before .before .before .before .before .before .before .before .before .if1 in
-    let if2 = c .before .before .before .before .before .before .before .before .if2 in
+    let args = farther .before .before .before .before .before .before .before .args in
+    let if1 = far .before .before .if1 in
+    let if2 = far .if2 in
     rw (climb .ensures, next-mark .ensures)
-    (run-step (args .self) (args .input .now) (args .from) _ _ _ (passed (c .before .before .before .before .before .before .before .before .before .before .before)) (if1 .taken) (if2 .left)
+    (run-step (args .self) (args .input .now) (args .from) _ _ _ (passed (far .before .before .before)) (if1 .taken) (if2 .left)
     (rw (climb .ensures, next-mark .ensures) at (sym (c .before .is-silent .ensures) ∙ not-false _ (c .if3 .left))))
 
 loop-less-2 : tie.Need-loop-less-2 Inv-loop μ-loop
@@ -160,9 +172,14 @@ silent-requires-2 c κs = search needs
 
 returns-3 : tie.Need-returns-3 Inv-loop μ-loop
 returns-3 c =
-    let args = c .before .before .before .before .before .before .before .before .before .before .before .args in
+    let far = c .before .before .before .before .before .before .before .before in
+    let args = far .before .before .before .args in
     let loop = c .before .before .before .loop in
-    rw (c .silent2 .ensures, c .before .moved3 .ensures) (run-end (args .self) (args .input .now) (args .from) _ _ _ (loop .inv) (c .before .before .loop-test .left))
+    rw (
+      c .silent2 .ensures,
+      c .before .moved3 .ensures,
+    )
+    (run-end (args .self) (args .input .now) (args .from) _ _ _ (loop .inv) (c .before .before .loop-test .left))
 
 pub run-spec : {M : Type 1} → statement M
 run-spec =

@@ -21,7 +21,8 @@ add-t10 c = search needs
 returns-2 : tie.Need-returns-2
 returns-2 c =
     let a = c .before .before .before .before .before .before .before .before .before .args in
-    λ key e. rw add-one (sym (enter-longer key (a .self) (a .new) (omega arith) (omega arith) (rw e at (sym (c .before .before .before .before .equals .ensures) ∙ c .before .before .before .if2 .taken))))
+    let longer = sym (c .before .before .before .before .equals .ensures) ∙ c .before .before .before .if2 .taken in
+    λ key e. rw add-one (sym (enter-longer key (a .self) (a .new) (omega arith) (omega arith) (rw e at longer)))
 
 sub-t15 : tie.Need-sub-t15
 sub-t15 c = search needs

@@ -24,7 +24,12 @@ returns-2 c =
     let origin = c .before .before .before .before .origin in
     let equals = c .before .before .before .equals in
     let if1 = c .before .before .if1 in
-    rw (← (rw (origin .ensures) at (equals .ensures)), not-false (equals .result) (if1 .left), ← (rw (origin .ensures) at (c .before .equals2 .ensures)), not-true (c .before .equals2 .result) (c .if2 .taken))
+    rw (
+      ← (rw (origin .ensures) at (equals .ensures)),
+      not-false (equals .result) (if1 .left),
+      ← (rw (origin .ensures) at (c .before .equals2 .ensures)),
+      not-true (c .before .equals2 .result) (c .if2 .taken),
+    )
 
 none-requires : tie.Need-none-requires
 none-requires c κs = search needs
@@ -40,7 +45,13 @@ returns-3 c =
     let if1 = c .before .before .before .before .if1 in
     let equals2 = c .before .before .before .equals2 in
     let if2 = c .before .before .if2 in
-    rw (← (rw (origin .ensures) at (equals .ensures)), not-false (equals .result) (if1 .left), ← (rw (origin .ensures) at (equals2 .ensures)), not-false (equals2 .result) (if2 .left)) (rw (c .before .none .ensures) at (c .equals3 .ensures))
+    rw (
+      ← (rw (origin .ensures) at (equals .ensures)),
+      not-false (equals .result) (if1 .left),
+      ← (rw (origin .ensures) at (equals2 .ensures)),
+      not-false (equals2 .result) (if2 .left),
+    )
+    (rw (c .before .none .ensures) at (c .equals3 .ensures))
 
 pub none-fits-spec : {M : Type 1} → statement M
 none-fits-spec =

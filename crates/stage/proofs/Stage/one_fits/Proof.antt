@@ -20,7 +20,12 @@ unfolding oneFits
 returns-2 c =
     let fits2 = c .before .before .before .fits2 in
     let if1 = c .before .before .if1 in
-    rw (← fits2 .ensures, not-false (fits2 .result) (if1 .left), ← c .before .age-fits .ensures, not-true (c .before .age-fits .result) (c .if2 .taken))
+    rw (
+      ← fits2 .ensures,
+      not-false (fits2 .result) (if1 .left),
+      ← c .before .age-fits .ensures,
+      not-true (c .before .age-fits .result) (c .if2 .taken),
+    )
 
 equals-requires : tie.Need-equals-requires
 equals-requires c κs = search needs
@@ -32,7 +37,14 @@ returns-3 c =
     let if1 = c .before .before .before .before .if1 in
     let age-fits = c .before .before .before .age-fits in
     let if2 = c .before .before .if2 in
-    rw (← fits2 .ensures, not-false (fits2 .result) (if1 .left), ← age-fits .ensures, not-false (age-fits .result) (if2 .left), ← c .before .equals .ensures, not-true (c .before .equals .result) (c .if3 .taken))
+    rw (
+      ← fits2 .ensures,
+      not-false (fits2 .result) (if1 .left),
+      ← age-fits .ensures,
+      not-false (age-fits .result) (if2 .left),
+      ← c .before .equals .ensures,
+      not-true (c .before .equals .result) (c .if3 .taken),
+    )
 
 none-requires : tie.Need-none-requires
 none-requires c κs = search needs
@@ -49,7 +61,15 @@ returns-4 c =
     let if2 = c .before .before .before .before .if2 in
     let equals = c .before .before .before .equals in
     let if3 = c .before .before .if3 in
-    rw (← fits2 .ensures, not-false (fits2 .result) (if1 .left), ← age-fits .ensures, not-false (age-fits .result) (if2 .left), ← equals .ensures, not-false (equals .result) (if3 .left)) (rw (c .before .none .ensures) at (c .equals2 .ensures))
+    rw (
+      ← fits2 .ensures,
+      not-false (fits2 .result) (if1 .left),
+      ← age-fits .ensures,
+      not-false (age-fits .result) (if2 .left),
+      ← equals .ensures,
+      not-false (equals .result) (if3 .left),
+    )
+    (rw (c .before .none .ensures) at (c .equals2 .ensures))
 
 pub one-fits-spec : {M : Type 1} → statement M
 one-fits-spec =
