@@ -168,7 +168,7 @@ fp-cut key u v =
     ap (λ (f : Fingerprint). rest key f (fp key u) (length v)) (fp-join key u v)
     ∙ by-value _ _ (cut-back (fp key u .value * key .r ^ length v) (fp key v .value) (fp-below key v .below))
 
--- Powers: joining and cutting by one, and the square of one.
+-- Powers: joining and cutting by one, the product of two and the square of one.
 pub join-by : (key : Key) (u v : Fingerprint) (n : ℕ) → joinedBy (power key n) u v ≡ joined key u v n
 join-by key u v n = by-value _ _ (mul-mod-add p (u .value) (key .r ^ n) (v .value))
 
@@ -185,8 +185,11 @@ power-none key = by-power _ _ (rw pow-zero)
 pub power-more : (key : Key) (n : ℕ) → multiplied (power key n) (numberedPower (keyNumber key)) ≡ power key (n + 1)
 power-more key n = by-power _ _ (mod-mul p (key .r ^ n) (key .r) ∙ rw (add-one, pow-suc))
 
+pub times-power : (key : Key) (m n : ℕ) → multiplied (power key m) (power key n) ≡ power key (m + n)
+times-power key m n = by-power _ _ (power-product (key .r) m n)
+
 pub square-power : (key : Key) (n : ℕ) → squared (power key n) ≡ power key (n + n)
-square-power key n = by-power _ _ (power-product (key .r) n n)
+square-power key n = times-power key n n
 
 -- To have one fingerprint is an equivalence of blocks.
 module _ (key : Key) where

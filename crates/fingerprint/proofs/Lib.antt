@@ -1,3 +1,4 @@
 pub mod Modular
 pub mod Powers
 pub mod Laws
+pub mod Behind

@@ -10,6 +10,7 @@ ghost use Rattle.fingerprint.specs.Fingerprint.{
   rest,
   restBy,
   power,
+  multiplied,
   squared,
   keyFits,
   sameKey,
@@ -111,6 +112,16 @@ impl Power {
         ensures { λ a. ⌜ a ≡ noPower ⌝ }
     {
         Power { value: 0 }
+    }
+
+    // The power whose exponent is the sum of both exponents.
+    pub fn times(self, other: Power) -> Self
+        ensures { λ a. ⌜ a ≡ multiplied self other ⌝ }
+    {
+        let product = (self.value as u64) * (other.value as u64);
+        Self {
+            value: (product % Fingerprint::P) as u32,
+        }
     }
 
     // The power with twice the exponent.

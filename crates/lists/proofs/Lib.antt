@@ -2,3 +2,4 @@ pub mod Laws
 pub mod Tests
 pub mod Cases
 pub mod Stores
+pub mod Choices

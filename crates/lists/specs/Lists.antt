@@ -1,6 +1,6 @@
--- Tests and tables over the places 0 .. n-1, and lists of bytes.
+-- Tests and tables over the places 0 .. n-1, choices among numbers, and lists of bytes.
 use Prim.Native.Nat.{ℕ, zero, suc, _<_}
-use mathlib.Core.Bool.{Bool, true, _&&_}
+use mathlib.Core.Bool.{Bool, true, cond, _&&_}
 use mathlib.Core.List.{List, [], _∷_, _++_}
 use lib.ListN.{length, getD}
 
@@ -14,6 +14,15 @@ unfoldable pub tabulate {ℓ} : {A : Type ℓ} → (ℕ → A) → ℕ → List 
 tabulate f zero = []
 tabulate f (suc n) = tabulate f n ++ f n ∷ []
 
+-- of the n numbers from `from` on those that pass a test, in rising order
+unfoldable pub chosen : (ℕ → Bool) → ℕ → ℕ → List ℕ
+chosen test from zero = []
+chosen test from (suc n) = cond (test from) (from ∷ chosen test (suc from) n) (chosen test (suc from) n)
+
 -- Each number of the list is a byte.
 abbrev pub Bytes : List ℕ → Type 0
 Bytes l = (i : ℕ) → i < length l → getD l i 0 < 256
+
+-- Each number of the list is above all those before it.
+abbrev pub Rising : List ℕ → Type 0
+Rising l = (i j : ℕ) → i < j → j < length l → getD l i 0 < getD l j 0

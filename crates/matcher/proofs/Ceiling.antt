@@ -26,7 +26,7 @@ module _ (c : Round) where
   tried-count i start w =
       by-test (matches c i start) (λ e. rw (e, tried) (promoted-count i start _)) (λ e. rw (e, tried))
 
-  pub visited-count : (i : ℕ) (w : Walk) → visited c i w .answer .comparisons ≤ suc (w .answer .comparisons)
+  visited-count : (i : ℕ) (w : Walk) → visited c i w .answer .comparisons ≤ suc (w .answer .comparisons)
   unfolding visited
   visited-count i w =
       by-test (ripe c i (stageAt (w .stages) i)) (λ e. rw (e, visited, tried-count) (omega arith))

@@ -15,19 +15,18 @@ use Rattle.fingerprint.proofs.Laws.{square-power}
 use Rattle.ladder.specs.Prefix.{levels}
 use Rattle.ladder.proofs.Levels.{early-length, last-length}
 use Rattle.signature.specs.Signature.{places}
-use Rattle.stage.specs.Stages.{stageCount}
 use Rattle.matcher.specs.Skip.{Shifts}
 
 -- The places below i are filled, and r to the next power of 2 is at hand.
 pub record Doubling (key : Key) (k i : ℕ) (shifts : List Power) (square : Power) : Type 0 where
-  pub most : k ≤ stageCount
+  pub most : k ≤ places
   pub within : i ≤ k
   pub size : length shifts ≡ places
   pub table : (j : ℕ) → j < i → getD shifts j noPower ≡ power key (2 ^ j)
   pub next : square ≡ power key (2 ^ i)
 
 pub doubling-begin :
-    (key : Key) (k : ℕ) (shifts : List Power) (square : Power) → k ≤ stageCount → length shifts ≡ places → square ≡ power key 1
+    (key : Key) (k : ℕ) (shifts : List Power) (square : Power) → k ≤ places → length shifts ≡ places → square ≡ power key 1
     → Doubling key k 0 shifts square
 doubling-begin key k shifts square most size e =
     record { most = most; within = omega arith; size = size; table = λ j l. absurd (not-suc-le-zero l); next = rw pow-zero e }
@@ -48,12 +47,13 @@ module _ (key : Key) (k i : ℕ) (shifts : List Power) (square : Power) (q : Dou
       }
 
   -- the last place
-  pub doubling-end : (m : ℕ) (whole : Power) → k ≡ levels m → k ≤ i → whole ≡ power key m → Shifts key m (set shifts k whole)
-  doubling-end m whole last all e j h =
+  pub doubling-end :
+      (m : ℕ) (whole : Power) → k < places → k ≡ levels m → k ≤ i → whole ≡ power key m → Shifts key m (set shifts k whole)
+  doubling-end m whole room last all e j h =
       elim (ℕ-discrete j k) [
         | yes a ↦
             ap (λ (n : ℕ). getD (set shifts k whole) n noPower) a
-            ∙ getD-set-same shifts k whole noPower (omega (arith, q .size, q .most))
+            ∙ getD-set-same shifts k whole noPower (omega (arith, q .size))
             ∙ e
             ∙ ap (power key) (sym (rw (a ∙ last) (last-length m)))
         | no a ↦

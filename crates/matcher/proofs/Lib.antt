@@ -5,5 +5,7 @@ pub mod Visits
 pub mod Ceiling
 pub mod Rounds
 pub mod Doubling
+pub mod SharedPowers
 pub mod Quiet
+pub mod Shared
 pub mod Running

@@ -134,11 +134,11 @@ module _ (w : Matcher) (b : ℕ) (fits : matcherFits w ≡ true) (room : w .now 
         unlike,
       )
 
-  quiet-answer : strokeAnswer w b ≡ compared noAnswer
+  pub quiet-answer : strokeAnswer w b ≡ compared noAnswer
   unfolding strokeAnswer
   quiet-answer = rw (taken, strokeAnswer, walked-quietly)
 
-  quiet-after : afterStroke w b ≡ movedOn w next
+  pub quiet-after : afterStroke w b ≡ movedOn w next
   unfolding afterStroke
   quiet-after = rw (taken, afterStroke, walked-quietly)
 

@@ -19,6 +19,8 @@ use Rattle.signature.specs.Signature.{maxLength}
 use Rattle.stage.specs.declared.Mark.{Mark}
 use Rattle.stage.specs.declared.Stage.{Stage}
 use Rattle.stage.specs.declared.Entry.{Entry}
+use Rattle.stage.specs.declared.Aside.{Aside}
+use Rattle.stage.specs.declared.Aside.the-variants.{Nothing, Set}
 use Rattle.stage.specs.Stage.{maxTaken, takenOff, entered, asideOf, ripeAt, takeOffOf, canEnter, entryOf}
 use Rattle.stage.specs.Stages.{stageCount, Stages, Whole, stageAt, withStage, stagesFit}
 use Rattle.stage.proofs.Fit.{Fit, fit-of}
@@ -29,7 +31,6 @@ use Rattle.matcher.specs.declared.Round.{Round}
 use Rattle.matcher.specs.declared.Walk.{Walk}
 use Rattle.matcher.specs.Stroke.{noAnswer, withAside, ringing, compared, ripe, matches, promotedUnder, tried, visited, descended, walkedFrom}
 use Rattle.matcher.specs.Skip.{Shifts}
-use Rattle.matcher.proofs.Ceiling.{visited-count}
 use Rattle.matcher.proofs.StrokeFits.{Midway, midway-begin, visited-midway}
 use Rattle.matcher.proofs.Visits.{descend-one, visit-unripe, visit-dropped, visit-rung, visit-entered, visited-grows}
 
@@ -37,23 +38,57 @@ use Rattle.matcher.proofs.Visits.{descend-one, visit-unripe, visit-drop
 abbrev pub before-byte : Round → ℕ
 before-byte c = c .now .at - 1
 
--- The loop over the stages: the stages below i are left to visit, and what is to be done from the walk w gives what was to be done at first.
-pub record Turn (c : Round) (k i : ℕ) (before w : Walk) : Type 0 where
-  pub last : k ≡ levels (c .signature .length)
-  pub short : c .signature .length ≤ maxLength
+-- How far the answer has grown where the stages below i are left to visit: at most one set and one comparison for each stage.
+pub record Room (k i : ℕ) (a : Answer) : Type 0 where
   pub most : k ≤ stageCount
-  pub begun : 1 ≤ c .now .at
-  pub late : c .now .at ≤ maxTaken
   pub within : i ≤ k
+  pub asides : a .asides + i ≤ k
+  pub spare : i < k → a .asides + i < k
+  pub count : a .comparisons + i ≤ k
+
+-- Visiting the stage below n: none is set aside, or a start enters the stage above, which is none where it rings.
+module _ (k n : ℕ) (a b : Answer) (pos : 0 < n) (q : Room k n a) where
+  room-kept : b .asides ≡ a .asides → b .comparisons ≤ suc (a .comparisons) → Room k (n - 1) b
+  room-kept e f =
+      record {
+        most = q .most;
+        within = omega (arith, q .within);
+        asides = omega (arith, e, q .asides);
+        spare = λ l. omega (arith, e, q .asides);
+        count = omega (arith, f, q .count);
+      }
+
+  room-entered : (n ≡ k → ⊥) → (aside : Aside) → b ≡ withAside aside (compared a) → Room k (n - 1) b
+  room-entered below Nothing e = room-kept (rw e) (rw e (omega arith))
+  room-entered below (Set x) e =
+      let more : b .asides ≡ suc (a .asides) = rw e in
+      let once : b .comparisons ≡ suc (a .comparisons) = rw e in
+      record {
+        most = q .most;
+        within = omega (arith, q .within);
+        asides = omega (arith, more, q .asides);
+        spare = λ l. omega (arith, more, q .within, q .spare (omega (arith, q .within)));
+        count = omega (arith, once, q .count);
+      }
+
+-- The walk is the one to be made: each stage fits where it is visited, and what is to be done from w gives what was to be done at first.
+pub record Exact (c : Round) (k i : ℕ) (before w : Walk) : Type 0 where
   pub whole : Whole (w .stages)
   pub midway : Midway (c .signature .length) (before-byte c) i (w .stages)
-  pub room : w .answer .asides + i ≤ k
-  pub spare : i < k → w .answer .asides + i < k
-  pub count : w .answer .comparisons + i ≤ k
   pub same : descended c i w ≡ descended c k before
 
+-- The loop over the stages: the stages below i are left to visit. The answer has room whatever the comparisons say; the walk is the one to
+-- be made where they are taken by the powers of the card's key.
+pub record Turn (c : Round) (shifts : List Power) (k i : ℕ) (before w : Walk) : Type 0 where
+  pub last : k ≡ levels (c .signature .length)
+  pub short : c .signature .length ≤ maxLength
+  pub begun : 1 ≤ c .now .at
+  pub late : c .now .at ≤ maxTaken
+  pub room : Room k i (w .answer)
+  pub exact : Shifts (c .signature .key) (c .signature .length) shifts → Exact c k i before w
+
 pub turn-begin :
-    (c : Round) (before : Walk) (k : ℕ)
+    (c : Round) (shifts : List Power) (before : Walk) (k : ℕ)
     → k ≡ levels (c .signature .length)
     → c .signature .length ≤ maxLength
     → 1 ≤ c .now .at
@@ -61,8 +96,8 @@ pub turn-begin :
     → Whole (before .stages)
     → stagesFit (c .signature .length) (before-byte c) (before .stages) ≡ true
     → before .answer ≡ noAnswer
-    → Turn c k k before before
-turn-begin c before k last short begun late whole fits none =
+    → Turn c shifts k k before before
+turn-begin c shifts before k last short begun late whole fits none =
     let m : ℕ = c .signature .length in
     let fit : (i : ℕ) → i < stageCount → Fit m i (before-byte c) (before-byte c) (stageAt (before .stages) i) =
     λ i l. fit-of m i _ _ (every-at _ stageCount fits i l)
@@ -70,19 +105,21 @@ turn-begin c before k last short begun late whole fits none =
     record {
       last = last;
       short = short;
-      most = omega (arith, levels-bound m short);
       begun = begun;
       late = late;
-      within = omega arith;
-      whole = whole;
-      midway = rw last (midway-begin m (before-byte c) (before .stages) fit);
-      room = rw none (omega arith);
-      spare = λ l. rw none (omega arith);
-      count = rw none (omega arith);
-      same = refl;
+      room = rw none
+          (record {
+            most = omega (arith, last, levels-bound m short);
+            within = omega arith;
+            asides = omega arith;
+            spare = λ l. omega arith;
+            count = omega arith;
+          });
+      exact = λ table.
+          record { whole = whole; midway = rw last (midway-begin m (before-byte c) (before .stages) fit); same = refl };
     }
 
-module _ (c : Round) (k n : ℕ) (before w : Walk) (pos : 0 < n) (q : Turn c k n before w) where
+module _ (c : Round) (shifts : List Power) (k n : ℕ) (before w : Walk) (pos : 0 < n) (q : Turn c shifts k n before w) where
   abbrev m : ℕ
   m = c .signature .length
 
@@ -91,6 +128,9 @@ module _ (c : Round) (k n : ℕ) (before w : Walk) (pos : 0 < n) (q : Turn c k n
 
   abbrev key : Key
   key = c .signature .key
+
+  abbrev Table : Type 0
+  Table = Shifts key m shifts
 
   -- the stage that is visited
   abbrev i : ℕ
@@ -105,75 +145,74 @@ module _ (c : Round) (k n : ℕ) (before w : Walk) (pos : 0 < n) (q : Turn c k n
   now : c .now .at ≡ suc t
   now = omega (arith, q .begun)
 
-  pub turn-step : (r : Walk) → visited c i w ≡ r → Turn c k i before r
-  turn-step r e =
-      let to-visit : Midway m t (suc i) (w .stages) = rw next (q .midway) in
-      let midway : Midway m t i (visited c i w .stages) =
-      visited-midway c t now i w (omega (arith, q .last, q .within)) (omega (arith, q .within, q .most)) to-visit
-      in
-      let g = visited-grows c i w in
-      let compared-once = visited-count c i w in
-      rw (← e)
-      (record {
+  turn-step : (r : Walk) → Room k i (r .answer) → (Table → visited c i w ≡ r) → Turn c shifts k i before r
+  turn-step r room e =
+      record {
         last = q .last;
         short = q .short;
-        most = q .most;
         begun = q .begun;
         late = q .late;
-        within = omega (arith, q .within);
-        whole = g .whole (q .whole);
-        midway = midway;
-        room = omega (arith, g .asides, q .room);
-        spare = λ l. elim (decLt n k) [
-          | yes h ↦ omega (arith, g .asides, q .spare h)
-          | no h ↦ omega (arith, g .rung (omega (arith, q .last, q .within)), q .room)
-        ];
-        count = omega (arith, compared-once, q .count);
-        same = sym (descend-one c n w pos) ∙ q .same;
-      })
+        room = room;
+        exact = λ table.
+            let x = q .exact table in
+            let to-visit : Midway m t (suc i) (w .stages) = rw next (x .midway) in
+            rw (← e table)
+            (record {
+              whole = visited-grows c i w .whole (x .whole);
+              midway =
+                  visited-midway c t now i w (omega (arith, q .last, q .room .within)) (omega (arith, q .room .within, q .room .most))
+                  to-visit;
+              same = sym (descend-one c n w pos) ∙ x .same;
+            });
+      }
 
-  fit : Fit m i t t stage
-  fit = q .midway .below i (omega arith) (omega (arith, q .within, q .most))
+  fit : Table → Fit m i t t stage
+  fit table = q .exact table .midway .below i (omega arith) (omega (arith, q .room .within, q .room .most))
 
-  pub turn-unripe : ripeAt (prefixLength m n) (c .now .at) stage ≡ false → Turn c k i before w
-  turn-unripe e = turn-step w (visit-unripe c i w (rw next e))
+  pub turn-unripe : ripeAt (prefixLength m n) (c .now .at) stage ≡ false → Turn c shifts k i before w
+  turn-unripe e =
+      turn-step w (room-kept k n (w .answer) (w .answer) pos (q .room) refl (omega arith)) (λ table. visit-unripe c i w (rw next e))
 
   -- The first start is ripe: the power by which its block is cut out, and what is left of the stage.
   module _ (ripe-now : ripeAt (prefixLength m n) (c .now .at) stage ≡ true) where
     due : ripe c i stage ≡ true
     due = rw next ripe-now
 
-    pub turn-shift :
-        (shifts : List Power) → Shifts key m shifts → getD shifts n noPower ≡ power key (c .now .at - stage .first .at)
-    turn-shift shifts table =
+    pub turn-shift : Table → getD shifts n noPower ≡ power key (c .now .at - stage .first .at)
+    turn-shift table =
         let age : stage .first .at + prefixLength m n ≡ c .now .at =
         eqb-true (stage .first .at + prefixLength m n) (c .now .at) (and-right (not (eqb (stage .held) 0)) _ ripe-now)
         in
-        table n (omega (arith, q .last, q .within)) ∙ ap (power key) (omega arith)
+        table n (omega (arith, q .last, q .room .within)) ∙ ap (power key) (omega arith)
 
     module _ (rest : Stage) (left : rest ≡ takeOffOf key stage) where
       abbrev shorter : Stages
       shorter = withStage (w .stages) i rest
 
-      taken-off : rest ≡ takenOff key stage
-      taken-off =
+      taken-off : Table → rest ≡ takenOff key stage
+      taken-off table =
           let held : stage .held ≡ 0 → ⊥ = eqb-false _ _ (not-true _ (and-left _ _ ripe-now)) in
-          left ∙ take-off-fits m i t t stage (omega arith) key (omega (arith, q .late)) held fit
+          left ∙ take-off-fits m i t t stage (omega arith) key (omega (arith, q .late)) held (fit table)
 
       pub turn-dropped :
-          matches c n (stage .first) ≡ false → Turn c k i before (record { stages = shorter; answer = compared (w .answer) })
-      turn-dropped f = rw taken-off (turn-step _ (visit-dropped c i w due (rw next f)))
+          (Table → matches c n (stage .first) ≡ false)
+          → Turn c shifts k i before (record { stages = shorter; answer = compared (w .answer) })
+      turn-dropped f =
+          turn-step _ (room-kept k n (w .answer) _ pos (q .room) refl (omega arith))
+          (λ table. rw (taken-off table) (visit-dropped c i w due (rw next (f table))))
 
       -- Its block matched: it rings at the highest stage, and enters the stage above at another.
-      module _ (match : matches c n (stage .first) ≡ true) where
-        like : matches c (suc i) (stage .first) ≡ true
-        like = rw next match
+      module _ (match : Table → matches c n (stage .first) ≡ true) where
+        like : Table → matches c (suc i) (stage .first) ≡ true
+        like table = rw next (match table)
 
         pub turn-rung :
             n ≡ k
-            → Turn c k i before
+            → Turn c shifts k i before
             (record { stages = shorter; answer = ringing (stage .first .at) (compared (w .answer)) })
-        turn-rung e = rw taken-off (turn-step _ (visit-rung c i w due like (omega (arith, q .last))))
+        turn-rung e =
+            turn-step _ (room-kept k n (w .answer) _ pos (q .room) refl (omega arith))
+            (λ table. rw (taken-off table) (visit-rung c i w due (like table) (omega (arith, q .last))))
 
         abbrev above : Stage
         above = stageAt shorter n
@@ -184,45 +223,51 @@ module _ (c : Round) (k n : ℕ) (before w : Walk) (pos : 0 < n) (q : Turn c k n
             → entry ≡ entryOf key above (stage .first)
             → (answer : Answer)
             → answer ≡ withAside (entry .aside) (compared (w .answer))
-            → Turn c k i before (record { stages = withStage shorter n (entry .stage); answer = answer })
+            → Turn c shifts k i before (record { stages = withStage shorter n (entry .stage); answer = answer })
         turn-entered below entry e answer a =
+            turn-step _ (room-entered k n (w .answer) answer pos (q .room) below (entry .aside) a)
+            (λ table.
             let here : stageAt shorter n ≡ stageAt (w .stages) n = stage-with-other (w .stages) i rest n (omega arith) in
-            let room : canEnter above ≡ true =
-            rw here
-            (fit-can-enter m n t (suc t) _ (omega arith) (q .short) (q .midway .here (omega (arith, q .most, q .within))))
+            let under : n < stageCount = omega (arith, q .room .most, q .room .within) in
+            let enters : canEnter above ≡ true =
+            rw here (fit-can-enter m n t (suc t) _ (omega arith) (q .short) (q .exact table .midway .here under))
             in
             let full : entry ≡ record { stage = entered key above (stage .first); aside = asideOf key above (stage .first) } =
-            e ∙ enter-room key above (stage .first) room
+            e ∙ enter-room key above (stage .first) enters
             in
-            rw (a, full, taken-off)
+            rw (a, full, taken-off table)
             (rw next at
-            (turn-step _
-            (visit-entered c i w due like (omega (arith, q .last)) (asideOf key (stageAt (withStage (w .stages) i (takenOff key stage)) (suc i)) (stage .first)) refl)))
+            (visit-entered c i w due (like table) (omega (arith, q .last))
+            (asideOf key (stageAt (withStage (w .stages) i (takenOff key stage)) (suc i)) (stage .first)) refl)))
 
 -- Once no stage is left: the walk is the one to be made, and there is room for the start before the byte.
-module _ (c : Round) (k i : ℕ) (before w : Walk) (none-left : i ≡ 0) (none : before .answer ≡ noAnswer) (q : Turn c k i before w) where
-  all-visited : w ≡ descended c k (record { stages = before .stages; answer = noAnswer })
+module _ (c : Round) (shifts : List Power) (k i : ℕ) (before w : Walk) (none-left : i ≡ 0) (none : before .answer ≡ noAnswer)
+    (q : Turn c shifts k i before w) where
+  all-visited : Exact c k i before w → w ≡ descended c k (record { stages = before .stages; answer = noAnswer })
   unfolding descended
-  all-visited =
-      let same : w ≡ descended c k before = rw none-left at (q .same) in
+  all-visited x =
+      let same : w ≡ descended c k before = rw none-left at (x .same) in
       same ∙ ap (descended c k) (λ j. record { stages = before .stages; answer = none j })
 
-  last-enters : canEnter (stageAt (w .stages) 0) ≡ true
-  last-enters =
+  last-enters : Exact c k i before w → canEnter (stageAt (w .stages) 0) ≡ true
+  last-enters x =
       let m : ℕ = c .signature .length in
       let t : ℕ = before-byte c in
-      let midway : Midway m t 0 (w .stages) = rw none-left at (q .midway) in
+      let midway : Midway m t 0 (w .stages) = rw none-left at (x .midway) in
       fit-can-enter m 0 t (suc t) _ (omega arith) (q .short) (midway .here (omega arith))
 
   pub turn-end :
-      (w ≡ descended c k (record { stages = before .stages; answer = noAnswer }))
-      × ((canEnter (stageAt (w .stages) 0) ≡ true) × (w .answer .asides < stageCount) × (w .answer .comparisons ≤ stageCount))
+      (Shifts (c .signature .key) (c .signature .length) shifts
+      → (w ≡ descended c k (record { stages = before .stages; answer = noAnswer })) × (canEnter (stageAt (w .stages) 0) ≡ true))
+      × ((w .answer .asides < stageCount) × (w .answer .comparisons ≤ stageCount))
   turn-end = (
-    all-visited,
+    λ table. (all-visited (q .exact table), last-enters (q .exact table)),
     (
-      last-enters,
-      elim (decLt i k) [ yes l ↦ omega (arith, q .spare l, q .most) | no l ↦ omega (arith, q .room) ],
-      omega (arith, q .count, q .most),
+      elim (decLt i k) [
+        | yes l ↦ omega (arith, q .room .spare l, q .room .most)
+        | no l ↦ omega (arith, q .room .asides)
+      ],
+      omega (arith, q .room .count, q .room .most),
     ),
   )
 

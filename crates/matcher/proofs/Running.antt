@@ -25,7 +25,7 @@ use Rattle.matcher.specs.Matcher.{matcherFits, moved}
 use Rattle.matcher.specs.Stroke.{noAnswer, nextMark, walked, strokeRefusal, strokeAnswer, afterStroke}
 use Rattle.matcher.specs.Scan.{Scanned, silent, scanned, scanOf}
 use Rattle.matcher.specs.Skip.{skipped, silentEnd, Ends}
-use Rattle.matcher.proofs.Sound.{sound, card-of, after-taken}
+use Rattle.matcher.proofs.Sound.{sound, card-of, after-taken, answer-taken}
 use Rattle.matcher.proofs.StrokeFits.{stroke-fits}
 use Rattle.matcher.proofs.Ceiling.{ceiling}
 use Rattle.matcher.proofs.Quiet.{Calm, movedOn, first, ahead, scanned-by, Skips, no-skips, skips, sooner, skipped-none}
@@ -93,8 +93,7 @@ module _ (self : Matcher) (input : List ℕ) (from : ℕ) where
         after = moved w (nextMark (w .signature .key) (w .now) byte) (walked w byte .stages)
 
         answered : strokeAnswer w byte ≡ walked w byte .answer
-        unfolding strokeAnswer
-        answered = rw (accepted, strokeAnswer)
+        answered = answer-taken w byte accepted
 
         pub run-report :
             silent (walked w byte .answer) ≡ false

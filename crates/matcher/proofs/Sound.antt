@@ -17,7 +17,7 @@ use Rattle.stage.specs.Stages.{stageCount, stageAt, stagesFit}
 use Rattle.stage.proofs.Fit.{Fit, fit-of, fits-of}
 use Rattle.matcher.specs.declared.Matcher.{Matcher}
 use Rattle.matcher.specs.Matcher.{matcherFits, moved}
-use Rattle.matcher.specs.Stroke.{nextMark, walked, strokeRefusal, afterStroke}
+use Rattle.matcher.specs.Stroke.{nextMark, walked, strokeRefusal, strokeAnswer, afterStroke}
 
 -- What a watch that is no misfit says of itself.
 pub record Sound (w : Matcher) : Type 0 where
@@ -67,3 +67,7 @@ pub after-taken :
     → afterStroke w b ≡ moved w (nextMark (w .signature .key) (w .now) b) (walked w b .stages)
 unfolding afterStroke
 after-taken w b e = rw (e, afterStroke)
+
+pub answer-taken : (w : Matcher) (b : ℕ) → strokeRefusal w ≡ 0 → strokeAnswer w b ≡ walked w b .answer
+unfolding strokeAnswer
+answer-taken w b e = rw (e, strokeAnswer)

@@ -6,13 +6,15 @@ ghost use lib.ListN.{length, drop};
 ghost use Rattle.fingerprint.specs.declared.Key.{Key};
 ghost use Rattle.fingerprint.specs.Fingerprint.{same, power};
 ghost use Rattle.ladder.specs.Prefix.{levels};
+ghost use Rattle.refusal.specs.declared.Verdict.the-variants.{Accepted, Refused};
 ghost use Rattle.refusal.specs.Number.{number};
 ghost use Rattle.signature.specs.Signature.{maxLength};
 ghost use Rattle.stage.specs.Stage.{maxTaken, gapTo, canEnter};
 ghost use Rattle.stage.specs.Stages.{stageCount, stagesFit, stageAt};
 ghost use Rattle.matcher.specs.Matcher.{matcherFits, freshRefusal, fresh, blank, moved, noMatcher};
-ghost use Rattle.matcher.specs.Stroke.{noAnswer, ringing, withAside, promotedUnder, descended, walkedFrom, nextMark, strokeRefusal, strokeAnswer, afterStroke};
+ghost use Rattle.matcher.specs.Stroke.{noAnswer, compared, ringing, withAside, promotedUnder, descended, walkedFrom, nextMark, strokeRefusal, strokeAnswer, afterStroke};
 ghost use Rattle.matcher.specs.Scan.{silent, scanned, scanOf};
+ghost use Rattle.matcher.specs.Shared.{powersOf, sharedFits, sharedRefusal, sharedAnswer, sharedStages};
 ghost use Rattle.matcher.specs.Skip.{Shifts, skipped, Unripe, silentEnd, Ends};
 use fingerprint::Fingerprint;
 use fingerprint::Key;
@@ -72,6 +74,19 @@ pub struct Scan {
     pub comparisons: u64,
     pub next: usize,
     pub verdict: Verdict,
+}
+
+// r to 1, 2, 4 .. 2^20, found once for all watches that share a key. Nothing outside makes one but `Powers::of`: its fields are private.
+pub struct Powers {
+    key: Key,
+    squares: [Power; PLACES],
+}
+
+// What one byte brings to a watch that shares t and F_t with others: its stages then, and the answer.
+pub struct Turn {
+    pub verdict: Verdict,
+    pub stages: [Stage; STAGES],
+    pub answer: Answer,
 }
 
 // A card and the mark of t and F_t: what stays the same while the stages are visited.
@@ -178,8 +193,8 @@ fn matches(shift: Power, start: Mark, now: Mark, print: Fingerprint) -> bool
 
 // A start whose byte is P_0 is rung if k = 0, else it enters stage 0.
 fn admit(key: Key, k: u32, start: Mark, w: Walk) -> Walk
-    requires { ⌜ (canEnter (stageAt (w .stages) 0) ≡ true) × (w .answer .asides < stageCount) ⌝ }
-    ensures { λ r. ⌜ r ≡ promotedUnder key k 0 start w ⌝ }
+    requires { ⌜ w .answer .asides < stageCount ⌝ }
+    ensures { λ r. ⌜ (canEnter (stageAt (w .stages) 0) ≡ true → r ≡ promotedUnder key k 0 start w) ⌝ }
 {
     let answer = w.answer;
     if k == 0 {
@@ -221,12 +236,62 @@ fn shifts(key: Key, m: u32) -> [Power; PLACES]
     shifts
 }
 
+impl Powers {
+    // The powers of a key.
+    pub fn of(key: Key) -> Powers
+        ensures { λ r. ⌜ r ≡ powersOf key ⌝ }
+    {
+        let nothing = Power::none();
+        let mut squares = [nothing; PLACES];
+        let mut square = key.power(1);
+        let mut i: u32 = 0;
+        while (i as usize) < PLACES {
+            squares[i as usize] = square;
+            square = square.squared();
+            i = i + 1;
+        }
+        Powers { key, squares }
+    }
+
+    // r to the m, by the binary digits of m.
+    fn whole(self, m: u32) -> Power
+        requires { ⌜ m ≤ maxLength ⌝ }
+        ensures { λ a. ⌜ ((key : Key) → self ≡ powersOf key → a ≡ power key m) ⌝ }
+    {
+        let key = self.key;
+        let squares = self.squares;
+        let mut product = key.power(0);
+        let mut left = m;
+        let mut i: u32 = 0;
+        while 0 < left {
+            if left % 2 == 1 {
+                product = product.times(squares[i as usize]);
+            }
+            left = left / 2;
+            i = i + 1;
+        }
+        product
+    }
+
+    // r to |P_i| for each tested beginning P_0 .. P_k of m bytes.
+    fn shifts(self, m: u32) -> [Power; PLACES]
+        requires { ⌜ m ≤ maxLength ⌝ }
+        ensures { λ r. ⌜ ((key : Key) → self ≡ powersOf key → Shifts key m r) ⌝ }
+    {
+        let k = signature::levels(m);
+        let whole = self.whole(m);
+        let mut shifts = self.squares;
+        shifts[k as usize] = whole;
+        shifts
+    }
+}
+
 // One byte's walk over the stages, from the highest down: a ripe start is taken off and compared; on a match it rings or enters the stage
-// above.
+// above. It is the ladder's walk where `shifts` are the powers of the card's key; no number leaves its range whatever they are.
 fn descend(c: Round, k: u32, shifts: [Power; PLACES], before: [Stage; STAGES]) -> Walk
-    requires { ⌜ (c .signature .length ≤ maxLength) × (k ≡ levels (c .signature .length)) × Shifts (c .signature .key) (c .signature .length) shifts × (1 ≤ c .now .at) × (stagesFit (c .signature .length) (c .now .at - 1) before ≡ true) ⌝ }
-    ensures { λ r. ⌜ r ≡ descended c k (record { stages = before; answer = noAnswer }) ⌝ }
-    ensures { λ r. ⌜ (canEnter (stageAt (r .stages) 0) ≡ true) × (r .answer .asides < stageCount) × (r .answer .comparisons ≤ stageCount) ⌝ }
+    requires { ⌜ (c .signature .length ≤ maxLength) × (k ≡ levels (c .signature .length)) × (1 ≤ c .now .at) × (stagesFit (c .signature .length) (c .now .at - 1) before ≡ true) ⌝ }
+    ensures { λ r. ⌜ (Shifts (c .signature .key) (c .signature .length) shifts → (r ≡ descended c k (record { stages = before; answer = noAnswer })) × (canEnter (stageAt (r .stages) 0) ≡ true)) ⌝ }
+    ensures { λ r. ⌜ (r .answer .asides < stageCount) × (r .answer .comparisons ≤ stageCount) ⌝ }
 {
     let m = c.signature.length;
     let key = c.signature.key;
@@ -265,8 +330,8 @@ fn descend(c: Round, k: u32, shifts: [Power; PLACES], before: [Stage; STAGES]) -
 
 // One byte's walk: the stages, and then the start before the byte, which is compared with P_0.
 fn climb(c: Round, shifts: [Power; PLACES], start: Mark, before: [Stage; STAGES]) -> Walk
-    requires { ⌜ (1 ≤ c .signature .length) × (c .signature .length ≤ maxLength) × Shifts (c .signature .key) (c .signature .length) shifts × (c .now .at ≡ suc (start .at)) × (stagesFit (c .signature .length) (start .at) before ≡ true) ⌝ }
-    ensures { λ r. ⌜ r ≡ walkedFrom c start before ⌝ }
+    requires { ⌜ (1 ≤ c .signature .length) × (c .signature .length ≤ maxLength) × (c .now .at ≡ suc (start .at)) × (stagesFit (c .signature .length) (start .at) before ≡ true) ⌝ }
+    ensures { λ r. ⌜ (Shifts (c .signature .key) (c .signature .length) shifts → r ≡ walkedFrom c start before) ⌝ }
 {
     let k = signature::levels(c.signature.length);
     let walk = descend(c, k, shifts, before);
@@ -311,6 +376,94 @@ fn skip(key: Key, first: Fingerprint, until: u32, start: Mark, input: &[u8], fro
         at = at + 1;
     }
     mark
+}
+
+impl Turn {
+    // The stages as they were, beside a refusal.
+    fn refused(refusal: Refusal, stages: [Stage; STAGES]) -> Turn
+        ensures { λ r. ⌜ (r .verdict ≡ Refused refusal) × (r .stages ≡ stages) × (r .answer ≡ noAnswer) ⌝ }
+    {
+        Turn {
+            verdict: Verdict::Refused(refusal),
+            stages,
+            answer: Answer::none(),
+        }
+    }
+
+    // A byte at which no start is ripe, and which is not P_0: one comparison, and the stages stay.
+    fn quiet(stages: [Stage; STAGES]) -> Turn
+        ensures { λ r. ⌜ (r .verdict ≡ Accepted) × (r .stages ≡ stages) × (r .answer ≡ compared noAnswer) ⌝ }
+    {
+        let mut answer = Answer::none();
+        answer.comparisons = 1;
+        Turn {
+            verdict: Verdict::Accepted,
+            stages,
+            answer,
+        }
+    }
+}
+
+impl Matcher {
+    // Whether a watch that shares the key and t, since a count, is no misfit.
+    fn shared_fits(self, key: Key, since: u32) -> bool
+        ensures { λ ok. ⌜ ok ≡ sharedFits key since self ⌝ }
+    {
+        let signature = self.signature;
+        let mark = self.now;
+        let own = signature.key;
+        if !own.equals(key) {
+            return false;
+        }
+        if mark.at < since {
+            return false;
+        }
+        if !signature.fits() {
+            return false;
+        }
+        if !mark.print.fits() {
+            return false;
+        }
+        if !signature::running_fits(mark.at, mark.print) {
+            return false;
+        }
+        let stages = self.stages;
+        stage::stages_fit_from(stages, signature.length, mark.at, since)
+    }
+
+    // Takes one byte of the stream, for a watch that shares key, t and F_t with others since a count. Refusals: 10 misfit, also for a card
+    // with another key, a count above t and a start below it; 6 spent. What is said of powers holds of those of any key, so of all there are.
+    pub fn stroke_shared(self, powers: Powers, since: u32, byte: u8) -> Turn
+        ensures verdict { λ r. ⌜ ((key : Key) → powers ≡ powersOf key → number (r .verdict) ≡ sharedRefusal key since self) ⌝ }
+        ensures stages { λ r. ⌜ ((key : Key) → powers ≡ powersOf key → r .stages ≡ sharedStages key since self byte) ⌝ }
+        ensures answer { λ r. ⌜ ((key : Key) → powers ≡ powersOf key → r .answer ≡ sharedAnswer key since self byte) ⌝ }
+    {
+        let signature = self.signature;
+        let start = self.now;
+        let before = self.stages;
+        if !self.shared_fits(powers.key, since) {
+            return Turn::refused(Refusal::Misfit, before);
+        }
+        if MAX_TAKEN <= start.at {
+            return Turn::refused(Refusal::Spent, before);
+        }
+        let now = next_mark(signature.key, start, byte);
+        let first = signature.prints[0];
+        if !first.equals(Fingerprint::of_byte(byte)) {
+            if now.at <= quiet_until(before, signature.length) {
+                return Turn::quiet(before);
+            }
+        }
+        let shifts = powers.shifts(signature.length);
+        let w = climb(Round { signature, now }, shifts, start, before);
+        let stages = w.stages;
+        let answer = w.answer;
+        Turn {
+            verdict: Verdict::Accepted,
+            stages,
+            answer,
+        }
+    }
 }
 
 impl Scan {

@@ -4,23 +4,11 @@ use Prim.Native.Nat.{ℕ, _+_}
 use mathlib.Core.Path.{_≡_, refl}
 use mathlib.Core.Bool.{true, false}
 use mathlib.Core.List.{List}
-use native.Mathlib.Omega.{arith}
 use borrow.Author.Tests.{ne-eqb}
 use Rattle.refusal.specs.declared.Refusal.{Refusal}
-use Rattle.refusal.specs.declared.Refusal.the-variants.{
-  Empty,
-  Overlong,
-  Key,
-  Unfinished,
-  Surplus,
-  Spent,
-  NoSpace,
-  Short,
-  Kind,
-  Misfit,
-  OtherPassage,
-}
+use Rattle.refusal.specs.declared.Verdict.the-variants.{Refused}
 use Rattle.refusal.specs.Number.{refusalNumber}
+use Rattle.refusal.proofs.Distinct.{refused-some}
 use Rattle.signature.specs.declared.Signature.{Signature}
 use Rattle.signature.specs.Signature.{noSignature}
 use Rattle.record.specs.Layout.{lengthWidth, lengthField, signatureKind, signatureAt}
@@ -35,17 +23,7 @@ use Rattle.record.specs.Calls.{
 
 -- A refusal's number is not that of an acceptance.
 pub refusal-given : (r : Refusal) → refusalNumber r ≡ 0 → ⊥
-refusal-given Empty e = omega arith
-refusal-given Overlong e = omega arith
-refusal-given Key e = omega arith
-refusal-given Unfinished e = omega arith
-refusal-given Surplus e = omega arith
-refusal-given Spent e = omega arith
-refusal-given NoSpace e = omega arith
-refusal-given Short e = omega arith
-refusal-given Kind e = omega arith
-refusal-given Misfit e = omega arith
-refusal-given OtherPassage e = omega arith
+refusal-given r e = refused-some {v = Refused r} refl e
 
 module _ (s : List ℕ) where
   pub unread-at : (n : ℕ) → n ≡ headRefusal signatureKind signatureLeast s → (n ≡ 0 → ⊥) → n ≡ readRefusal s

@@ -14,6 +14,9 @@ pub enum Refusal {
     Kind,
     Misfit,
     OtherPassage,
+    Full,
+    NameTaken,
+    NameAbsent,
 }
 
 // What a call says of itself: it was carried out, or it was refused and changed nothing.
@@ -38,6 +41,9 @@ impl Refusal {
             Refusal::Kind => 9,
             Refusal::Misfit => 10,
             Refusal::OtherPassage => 11,
+            Refusal::Full => 12,
+            Refusal::NameTaken => 13,
+            Refusal::NameAbsent => 14,
         }
     }
 }

@@ -1,8 +1,9 @@
 -- The stages of a watch: each is reached by its number, whatever they are laid out in.
 use Prim.Native.Nat.{ℕ}
 use mathlib.Core.Path.{_≡_}
-use mathlib.Core.Bool.{Bool}
+use mathlib.Core.Bool.{Bool, true, cond, _&&_}
 use mathlib.Core.List.{List}
+use lib.Dec.{leb, eqb}
 use lib.ListN.{length, getD, set, replicate}
 use Rattle.lists.specs.Lists.{every, tabulate}
 use Rattle.stage.specs.declared.Stage.{Stage}
@@ -41,3 +42,10 @@ fitsAt m t stages i = stageFits m i t (stageAt stages i)
 -- Each stage of a watch over m bytes fits at t.
 abbrev pub stagesFit : ℕ → ℕ → Stages → Bool
 stagesFit m t stages = every (fitsAt m t stages) stageCount
+
+-- "a start below c" (document 02, A.1) is a misfit: whether a stage lists none.
+abbrev pub listedFrom : ℕ → Stage → Bool
+listedFrom c s = cond (eqb (s .held) 0) true (leb c (s .first .at) && leb c (s .last .at))
+
+abbrev pub allFrom : ℕ → Stages → Bool
+allFrom c stages = every (λ i. listedFrom c (stageAt stages i)) stageCount

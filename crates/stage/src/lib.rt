@@ -1,11 +1,11 @@
 // One stage of a watch (document 01, "Ladder" and "Misfit"): the starts that it lists, when it misfits, and how starts come and go.
 ghost use mathlib.Core.Path.{_≡_};
-ghost use mathlib.Core.Bool.{true};
+ghost use mathlib.Core.Bool.{true, _&&_};
 ghost use Prim.Native.Nat.{_+_, _-_, _≤_, _<_};
 ghost use Rattle.fingerprint.specs.declared.Key.{Key};
 ghost use Rattle.ladder.specs.Prefix.{prefixLength};
 ghost use Rattle.stage.specs.Stage.{maxTaken, origin, noGap, noStage, sameMark, sameGap, ageFits, noneFits, oneFits, manyFit, stagePrintsFit, reachFits, stageFits, gapTo, forward, alone, takeOffOf, entryOf, ripeAt, quietUntil};
-ghost use Rattle.stage.specs.Stages.{stagesFit};
+ghost use Rattle.stage.specs.Stages.{stagesFit, listedFrom, allFrom};
 use fingerprint::Fingerprint;
 use fingerprint::Key;
 
@@ -372,6 +372,19 @@ impl Stage {
         self.first.at == t - length
     }
 
+    // Whether the stage lists no start below a count.
+    fn listed_from(self, since: u32) -> bool
+        ensures { λ ok. ⌜ ok ≡ listedFrom since self ⌝ }
+    {
+        if self.held == 0 {
+            return true;
+        }
+        if self.first.at < since {
+            return false;
+        }
+        since <= self.last.at
+    }
+
     // `until`, or less: the last t at which the first start is not yet ripe, which it is |P_i| bytes behind itself.
     pub fn quiet_until(self, m: u32, i: u32, until: u32) -> u32
         ensures { λ t. ⌜ t ≡ quietUntil (prefixLength m i) until self ⌝ }
@@ -401,6 +414,24 @@ pub fn stages_fit(stages: [Stage; STAGES], m: u32, t: u32) -> bool
             return false;
         }
         i = i + 1;
+    }
+    true
+}
+
+// Whether, besides, no stage lists a start below a count.
+pub fn stages_fit_from(stages: [Stage; STAGES], m: u32, t: u32, since: u32) -> bool
+    ensures { λ ok. ⌜ ok ≡ (stagesFit m t stages && allFrom since stages) ⌝ }
+{
+    let mut at: u32 = 0;
+    while (at as usize) < STAGES {
+        let stage = stages[at as usize];
+        if !stage.fits(m, at, t) {
+            return false;
+        }
+        if !stage.listed_from(since) {
+            return false;
+        }
+        at = at + 1;
     }
     true
 }

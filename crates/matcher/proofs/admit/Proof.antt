@@ -14,7 +14,7 @@ with-ring-requires c κs = search needs
 
 returns : tie.Need-returns
 unfolding promotedUnder
-returns c = rw (eq-eqb 0 _ (sym (c .before .before .if1 .taken)), c .with-ring .ensures)
+returns c = λ enters. rw (eq-eqb 0 _ (sym (c .before .before .if1 .taken)), c .with-ring .ensures)
 
 array-copy-out-s : tie.Need-array-copy-out-s
 array-copy-out-s c = search needs
@@ -26,16 +26,16 @@ array-set-from-stages : tie.Need-array-set-from-stages
 array-set-from-stages c = search needs
 
 with-requires : tie.Need-with-requires
-with-requires c κs = c .before .before .before .before .before .before .pre .1
+with-requires c κs = c .before .before .before .before .before .before .pre
 
 returns-2 : tie.Need-returns-2
 unfolding promotedUnder
 returns-2 c =
     let if1 = c .before .before .before .before .before .if1 in
     let enter = c .before .before .enter in
-    let pre = c .before .before .before .before .before .before .before .pre in
     let args = c .before .before .before .before .before .before .before .args in
-    let entry = enter-room (args .key) (stageAt (args .w .stages) 0) (args .start) (pre .0) in
+    λ enters.
+    let entry = enter-room (args .key) (stageAt (args .w .stages) 0) (args .start) enters in
     rw (ne-eqb 0 _ (λ e. if1 .left (sym e)), c .with .ensures, enter .ensures, entry, with-aside)
 
 pub admit-spec : {M : Type 1} → statement M

@@ -12,7 +12,7 @@ levels-requires c κs = search needs
 descend-requires : tie.Need-descend-requires
 descend-requires c κs =
     let pre = c .before .pre in
-    rw (pre .3, sub-one) (pre .1, c .levels .ensures, pre .2, search needs, pre .4)
+    rw (pre .2, sub-one) (pre .1, c .levels .ensures, search needs, pre .3)
 
 add-answer : tie.Need-add-answer
 add-answer c = search needs
@@ -27,9 +27,7 @@ matches-requires : tie.Need-matches-requires
 matches-requires c κs = search needs
 
 admit-requires : tie.Need-admit-requires
-admit-requires c κs =
-    let room = c .before .before .before .before .before .before .before .before .descend .ensures .1 in
-    (room .0, room .1)
+admit-requires c κs = c .before .before .before .before .before .before .before .before .descend .ensures .1 .0
 
 returns : tie.Need-returns
 returns c =
@@ -38,10 +36,12 @@ returns c =
     let matches = c .before .before .matches in
     let args = c .before .before .before .before .before .before .before .before .before .before .before .args in
     let pre = c .before .before .before .before .before .before .before .before .before .before .before .pre in
-    let shift = first-shift (args .c) (args .start) (args .t2) (pre .0) (pre .3) (pre .2) in
-    c .admit .ensures
+    λ table.
+    let shift = first-shift (args .c) (args .start) (args .t2) (pre .0) (pre .2) table in
+    let walk = descend .ensures .0 table in
+    c .admit .ensures (walk .1)
     ∙ rw add-one
-    (climbed-promoted (args .c) (levels .result) (args .start) (args .before) (descend .result) (levels .ensures) (descend .ensures .0)
+    (climbed-promoted (args .c) (levels .result) (args .start) (args .before) (descend .result) (levels .ensures) (walk .0)
     (sym (matches .ensures (args .c .signature .key) shift) ∙ c .before .if1 .taken))
 
 returns-2 : tie.Need-returns-2
@@ -50,9 +50,11 @@ returns-2 c =
     let descend = c .before .before .before .before .before .before .before .before .descend in
     let args = c .before .before .before .before .before .before .before .before .before .before .args in
     let pre = c .before .before .before .before .before .before .before .before .before .before .pre in
-    let shift = first-shift (args .c) (args .start) (args .t2) (pre .0) (pre .3) (pre .2) in
+    λ table.
+    let shift = first-shift (args .c) (args .start) (args .t2) (pre .0) (pre .2) table in
+    let walk = descend .ensures .0 table in
     rw add-one
-    (climbed-dropped (args .c) (levels .result) (args .start) (args .before) (descend .result) (levels .ensures) (descend .ensures .0)
+    (climbed-dropped (args .c) (levels .result) (args .start) (args .before) (descend .result) (levels .ensures) (walk .0)
     (sym (c .before .matches .ensures (args .c .signature .key) shift) ∙ c .if1 .left))
 
 pub climb-spec : {M : Type 1} → statement M

@@ -10,13 +10,14 @@ use Rattle.ladder.specs.Prefix.{prefixLength}
 use Rattle.stage.specs.Stage.{ripeAt}
 use Rattle.stage.specs.Stages.{stageAt}
 use Rattle.matcher.specs.Stroke.{matches}
+use Rattle.matcher.specs.Skip.{Shifts}
 use Rattle.matcher.proofs.Rounds.{Turn, turn-begin, turn-unripe, turn-shift, turn-dropped, turn-rung, turn-entered, turn-end}
 use Rattle.matcher.proofs.descend.Statement.{statement}
 use Rattle.matcher.proofs.descend.Tie as tie
 
 abbrev Inv-loop : tie.InvT-loop
 Inv-loop k shifts m key prints now w₀ i₀ w i =
-    Turn (record { signature = record { length = m; key = key; prints = prints }; now = now }) k i w₀ w
+    Turn (record { signature = record { length = m; key = key; prints = prints }; now = now }) shifts k i w₀ w
 
 abbrev μ-loop : tie.MeasureT-loop
 μ-loop k shifts m key prints now w₀ i₀ w i = i
@@ -29,20 +30,23 @@ ripened :
     ripeAt (prefixLength (args .c .signature .length) (loop .i)) (args .c .now .at) (stageAt (loop .w .stages) (loop .i - 1)) ≡ true
 ripened c = sym (c .before .is-ripe .ensures) ∙ c .if1 .taken
 
--- the comparison is that of the start's block with the beginning above
+-- the comparison is that of the start's block with the beginning above, where the powers are those of the card's key
 judged :
     (c : tie.After-matches Inv-loop μ-loop)
     → let far = c .before .before .before .before .before .before .before .before in
     let loop = far .before .before .loop in
-    c .matches .result ≡ matches (far .before .before .before .before .before .before .before .args .c) (loop .i) (stageAt (loop .w .stages) (loop .i - 1) .first)
+    let args = far .before .before .before .before .before .before .before .args in
+    Shifts (args .c .signature .key) (args .c .signature .length) (args .t3)
+    → c .matches .result ≡ matches (args .c) (loop .i) (stageAt (loop .w .stages) (loop .i - 1) .first)
 judged c =
     let far = c .before .before .before .before .before .before .before .before in
     let loop-test = far .before .loop-test in
-    let pre = far .before .before .before .before .before .before .before .pre in
     let args = far .before .before .before .before .before .before .before .args in
     let loop = far .before .before .loop in
-    c .matches .ensures (args .c .signature .key) (turn-shift (args .c) (args .k) (loop .i) _ (loop .w) (loop-test .taken) (loop .inv)
-    (ripened (c .before .before .before .before .before .before)) (args .t3) (pre .2))
+    let ripe = ripened (c .before .before .before .before .before .before) in
+    λ table.
+    c .matches .ensures (args .c .signature .key)
+    (turn-shift (args .c) (args .t3) (args .k) (loop .i) _ (loop .w) (loop-test .taken) (loop .inv) ripe table)
 
 none-requires : tie.Need-none-requires Inv-loop μ-loop
 none-requires c κs = search needs
@@ -51,7 +55,7 @@ loop-holds : tie.Need-loop-holds Inv-loop μ-loop
 loop-holds c =
     let args = c .before .before .before .before .args in
     let pre = c .before .before .before .before .pre in
-    turn-begin (args .c) (record { stages = args .before; answer = c .none .result }) (args .k) (pre .1) (pre .0) (pre .3) (omega arith) (search (counted-elements, needs)) (pre .4) (c .none .ensures)
+    turn-begin (args .c) (args .t3) (record { stages = args .before; answer = c .none .result }) (args .k) (pre .1) (pre .0) (pre .2) (omega arith) (search (counted-elements, needs)) (pre .3) (c .none .ensures)
 
 sub-i : tie.Need-sub-i Inv-loop μ-loop
 sub-i c = search needs
@@ -63,7 +67,7 @@ mul-s : tie.Need-mul-s Inv-loop μ-loop
 mul-s c = search needs
 
 element-copy-out-s : tie.Need-element-copy-out-s Inv-loop μ-loop
-element-copy-out-s c = omega (arith, c .before .loop .inv .most, c .before .loop .inv .within)
+element-copy-out-s c = omega (arith, c .before .loop .inv .room .most, c .before .loop .inv .room .within)
 
 is-ripe-requires : tie.Need-is-ripe-requires Inv-loop μ-loop
 is-ripe-requires c κs = search needs
@@ -74,52 +78,52 @@ take-off-requires c κs = search needs
 cast-t27 : tie.Need-cast-t27 Inv-loop μ-loop
 cast-t27 c =
     let loop = c .before .before .before .before .before .before .loop in
-    omega (arith, loop .inv .most, loop .inv .within)
+    omega (arith, loop .inv .room .most, loop .inv .room .within)
 
 mul-t28 : tie.Need-mul-t28 Inv-loop μ-loop
 mul-t28 c =
     let loop = c .before .before .before .before .before .before .loop in
-    omega (arith, loop .inv .most, loop .inv .within)
+    omega (arith, loop .inv .room .most, loop .inv .room .within)
 
 element-set-from-w : tie.Need-element-set-from-w Inv-loop μ-loop
 element-set-from-w c =
     let loop = c .before .before .before .before .before .before .loop in
-    omega (arith, loop .inv .most, loop .inv .within)
+    omega (arith, loop .inv .room .most, loop .inv .room .within)
 
 add-w : tie.Need-add-w Inv-loop μ-loop
 add-w c =
     let loop = c .before .before .before .before .before .before .loop in
-    omega (arith, loop .inv .most, loop .inv .count)
+    omega (arith, loop .inv .room .most, loop .inv .room .count)
 
 cast-matches : tie.Need-cast-matches Inv-loop μ-loop
 cast-matches c =
     let loop = c .before .before .before .before .before .before .before .loop in
-    omega (arith, loop .inv .most, loop .inv .within)
+    omega (arith, loop .inv .room .most, loop .inv .room .within)
 
 mul-matches : tie.Need-mul-matches Inv-loop μ-loop
 mul-matches c =
     let loop = c .before .before .before .before .before .before .before .loop in
-    omega (arith, loop .inv .most, loop .inv .within)
+    omega (arith, loop .inv .room .most, loop .inv .room .within)
 
 array-copy-out-matches : tie.Need-array-copy-out-matches Inv-loop μ-loop
 array-copy-out-matches c =
     let loop = c .before .before .before .before .before .before .before .loop in
-    omega (arith, loop .inv .most, loop .inv .within)
+    omega (arith, loop .inv .room .most, loop .inv .room .within)
 
 cast-matches-2 : tie.Need-cast-matches-2 Inv-loop μ-loop
 cast-matches-2 c =
     let loop = c .before .before .before .before .before .before .before .before .loop in
-    omega (arith, loop .inv .most, loop .inv .within)
+    omega (arith, loop .inv .room .most, loop .inv .room .within)
 
 mul-matches-2 : tie.Need-mul-matches-2 Inv-loop μ-loop
 mul-matches-2 c =
     let loop = c .before .before .before .before .before .before .before .before .loop in
-    omega (arith, loop .inv .most, loop .inv .within)
+    omega (arith, loop .inv .room .most, loop .inv .room .within)
 
 array-copy-out-matches-2 : tie.Need-array-copy-out-matches-2 Inv-loop μ-loop
 array-copy-out-matches-2 c =
     let loop = c .before .before .before .before .before .before .before .before .loop in
-    omega (arith, loop .inv .most, loop .inv .within)
+    omega (arith, loop .inv .room .most, loop .inv .room .within)
 
 matches-requires : tie.Need-matches-requires Inv-loop μ-loop
 matches-requires c κs = search needs
@@ -143,25 +147,25 @@ loop-again c =
     let args = farther .before .before .before .args in
     let loop = far .before .before .before .before .before .before .loop in
     rw (c .with-ring .ensures, add-one (loop .w .answer .comparisons))
-    (turn-rung (args .c) (args .k) (loop .i) _ (loop .w) (loop-test .taken) (loop .inv)
+    (turn-rung (args .c) (args .t3) (args .k) (loop .i) _ (loop .w) (loop-test .taken) (loop .inv)
     (ripened (far .before .before))
     (take-off .result) (take-off .ensures)
-    (sym (judged (c .before .before .before .before)) ∙ if2 .taken) (if3 .taken))
+    (λ table. sym (judged (c .before .before .before .before) table) ∙ if2 .taken) (if3 .taken))
 
 cast-enter : tie.Need-cast-enter Inv-loop μ-loop
 cast-enter c =
     let loop = c .before .before .before .before .before .before .before .before .before .before .before .before .loop in
-    omega (arith, loop .inv .most, loop .inv .within)
+    omega (arith, loop .inv .room .most, loop .inv .room .within)
 
 mul-enter : tie.Need-mul-enter Inv-loop μ-loop
 mul-enter c =
     let loop = c .before .before .before .before .before .before .before .before .before .before .before .before .loop in
-    omega (arith, loop .inv .most, loop .inv .within)
+    omega (arith, loop .inv .room .most, loop .inv .room .within)
 
 element-copy-out-enter : tie.Need-element-copy-out-enter Inv-loop μ-loop
 element-copy-out-enter c =
     let loop = c .before .before .before .before .before .before .before .before .before .before .before .before .loop in
-    omega (arith, loop .inv .most, loop .inv .within)
+    omega (arith, loop .inv .room .most, loop .inv .room .within)
 
 enter-requires : tie.Need-enter-requires Inv-loop μ-loop
 enter-requires c κs = search needs
@@ -169,17 +173,17 @@ enter-requires c κs = search needs
 cast-stage : tie.Need-cast-stage Inv-loop μ-loop
 cast-stage c =
     let loop = c .before .before .before .before .before .before .before .before .before .before .before .before .before .before .before .loop in
-    omega (arith, loop .inv .most, loop .inv .within)
+    omega (arith, loop .inv .room .most, loop .inv .room .within)
 
 mul-stage : tie.Need-mul-stage Inv-loop μ-loop
 mul-stage c =
     let loop = c .before .before .before .before .before .before .before .before .before .before .before .before .before .before .before .loop in
-    omega (arith, loop .inv .most, loop .inv .within)
+    omega (arith, loop .inv .room .most, loop .inv .room .within)
 
 element-set-from-stage : tie.Need-element-set-from-stage Inv-loop μ-loop
 element-set-from-stage c =
     let loop = c .before .before .before .before .before .before .before .before .before .before .before .before .before .before .before .loop in
-    omega (arith, loop .inv .most, loop .inv .within)
+    omega (arith, loop .inv .room .most, loop .inv .room .within)
 
 enum-told : tie.Need-enum-told Inv-loop μ-loop
 enum-told c = search needs
@@ -190,7 +194,7 @@ with-requires c κs =
     let farther = far .before .before .before .before .before .before .before .before in
     let loop-test = farther .before .loop-test in
     let loop = farther .before .before .loop in
-    omega (arith, loop .inv .room, loop .inv .most, loop-test .taken)
+    omega (arith, loop .inv .room .asides, loop .inv .room .most, loop-test .taken)
 
 loop-less-2 : tie.Need-loop-less-2 Inv-loop μ-loop
 loop-less-2 c =
@@ -210,10 +214,10 @@ loop-again-2 c =
     let if3 = c .before .before .before .before .before .before .before .if3 in
     let args = farther .before .before .before .before .before .before .before .before .args in
     let loop = farther .before .before .before .loop in
-    (turn-entered (args .c) (args .k) (loop .i) _ (loop .w) (loop-test .taken) (loop .inv)
+    (turn-entered (args .c) (args .t3) (args .k) (loop .i) _ (loop .w) (loop-test .taken) (loop .inv)
     (ripened (far .before .before .before .before .before .before .before))
     (take-off .result) (take-off .ensures)
-    (sym (judged (far .before)) ∙ if2 .taken) (if3 .left)
+    (λ table. sym (judged (far .before) table) ∙ if2 .taken) (if3 .left)
     (enter .result) (enter .ensures) _ (rw add-one at (c .with .ensures)))
 
 enum-told-2 : tie.Need-enum-told-2 Inv-loop μ-loop
@@ -238,10 +242,10 @@ loop-again-3 c =
     let args = farther .before .before .before .before .before .before .args in
     let loop = farther .before .loop in
     rw (add-one (loop .w .answer .comparisons))
-    (turn-entered (args .c) (args .k) (loop .i) _ (loop .w) (loop-test .taken) (loop .inv)
+    (turn-entered (args .c) (args .t3) (args .k) (loop .i) _ (loop .w) (loop-test .taken) (loop .inv)
     (ripened (far .before .before .before .before .before))
     (take-off .result) (take-off .ensures)
-    (sym (judged (c .before .before .before .before .before .before .before)) ∙ if2 .taken) (if3 .left)
+    (λ table. sym (judged (c .before .before .before .before .before .before .before) table) ∙ if2 .taken) (if3 .left)
     (enter .result) (enter .ensures) _ (rw (c .enum-told2 .given .1)))
 
 loop-less-4 : tie.Need-loop-less-4 Inv-loop μ-loop
@@ -255,10 +259,10 @@ loop-again-4 c =
     let loop-test = far .before .before .loop-test in
     let args = farther .args in
     let loop = far .before .before .before .loop in
-    rw add-one (turn-dropped (args .c) (args .k) (loop .i) _ (loop .w) (loop-test .taken) (loop .inv)
+    rw add-one (turn-dropped (args .c) (args .t3) (args .k) (loop .i) _ (loop .w) (loop-test .taken) (loop .inv)
     (ripened (c .before .before .before .before .before .before .before))
     (take-off .result) (take-off .ensures)
-    (sym (judged (c .before)) ∙ c .if2 .left))
+    (λ table. sym (judged (c .before) table) ∙ c .if2 .left))
 
 loop-less-5 : tie.Need-loop-less-5 Inv-loop μ-loop
 loop-less-5 c = omega (arith, c .before .before .before .loop-test .taken)
@@ -268,14 +272,14 @@ loop-again-5 c =
     let loop-test = c .before .before .before .loop-test in
     let args = c .before .before .before .before .before .before .before .before .before .args in
     let loop = c .before .before .before .before .loop in
-    turn-unripe (args .c) (args .k) (loop .i) _ (loop .w) (loop-test .taken) (loop .inv)
+    turn-unripe (args .c) (args .t3) (args .k) (loop .i) _ (loop .w) (loop-test .taken) (loop .inv)
     (sym (c .before .is-ripe .ensures) ∙ c .if1 .left)
 
 returns : tie.Need-returns Inv-loop μ-loop
 returns c =
     let args = c .before .before .before .before .before .before .args in
     let none = c .before .before .none in
-    turn-end (args .c) (args .k) (c .before .loop .i) _ (c .before .loop .w) (omega (arith, c .loop-test .left)) (none .ensures) (c .before .loop .inv)
+    turn-end (args .c) (args .t3) (args .k) (c .before .loop .i) _ (c .before .loop .w) (omega (arith, c .loop-test .left)) (none .ensures) (c .before .loop .inv)
 
 pub descend-spec : {M : Type 1} → statement M
 descend-spec =

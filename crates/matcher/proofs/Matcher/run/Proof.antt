@@ -1,11 +1,12 @@
 -- `matcher::Matcher::run` meets its contract: the loop keeps the run going.
 use borrow.Author.Needs.{needs}
 use Prim.Native.Nat.{_+_, _-_}
-use mathlib.Core.Path.{refl, sym, _∙_}
+use mathlib.Core.Path.{_≡_, refl, sym, _∙_}
 use native.Mathlib.Omega.{arith}
 use borrow.Author.Tests.{not-true, not-false}
 use lib.ListN.{length}
 use Rattle.matcher.specs.Matcher.{moved}
+use Rattle.matcher.specs.Stroke.{walkedFrom}
 use Rattle.matcher.proofs.Sound.{sound, card-of, stages-fit}
 use Rattle.matcher.proofs.Running.{Running, run-begin, run-end, run-spent, run-report, run-count, run-step, run-skip}
 use Rattle.matcher.proofs.Matcher.run.Statement.{statement}
@@ -102,9 +103,20 @@ add-at-2 c = omega (arith, c .before .before .before .before .if1 .taken)
 
 climb-requires : tie.Need-climb-requires Inv-loop μ-loop
 climb-requires c κs =
-    let shifts = c .before .before .before .before .before .before .before .before .before .before .before .before .shifts in
     let q = sound _ (passed (c .before .before .before .before .before) .fits) in
-    rw (c .next-mark .ensures) (card-of q .long, card-of q .short, shifts .ensures, refl, stages-fit _ q)
+    rw (c .next-mark .ensures) (card-of q .long, card-of q .short, refl, stages-fit _ q)
+
+-- the byte's walk: the powers are those of the card's key
+climbed :
+    (c : tie.After-climb Inv-loop μ-loop)
+    → let far = c .before .before .before .before .before .before .before .before in
+    let signature = far .before .before .before .before .before .before .before .before .before .before .args .self .signature in
+    let start = c .before .before .before .before .before .before .before .skip .result in
+    let now = c .before .next-mark .result in
+    c .climb .result ≡ walkedFrom (record { signature = signature; now = now }) start (far .before .before .loop .stages)
+climbed c =
+    let far = c .before .before .before .before .before .before .before .before in
+    c .climb .ensures (far .before .before .before .before .before .shifts .ensures)
 
 cast-comparisons-2 : tie.Need-cast-comparisons-2 Inv-loop μ-loop
 cast-comparisons-2 c = search needs
@@ -114,13 +126,13 @@ add-comparisons-2 c =
     let far = c .before .before .before .before .before .before .before .before in
     let farther = far .before .before .before .before .before .before .before .before in
     let if2 = c .before .before .before .before .before .before .if2 in
-    let climb = c .before .before .before .climb in
+    let climb = climbed (c .before .before .before) in
     let next-mark = c .before .before .before .before .next-mark in
     let args = farther .before .before .before .before .before .args in
     let if1 = far .if1 in
     let q = passed (far .before) in
     let fresh = if2 .left in
-    rw (climb .ensures, next-mark .ensures)
+    rw (climb, next-mark .ensures)
     (omega (arith, q .few, fresh, run-count (args .self) (args .input .now) (args .from) _ _ _ q (if1 .taken) fresh))
 
 is-silent-requires : tie.Need-is-silent-requires Inv-loop μ-loop
@@ -133,14 +145,14 @@ returns-2 : tie.Need-returns-2 Inv-loop μ-loop
 returns-2 c =
     let far = c .before .before .before .before .before .before .before .before in
     let farther = far .before .before .before .before .before .before .before .before in
-    let climb = c .before .before .before .before .before .before .climb in
+    let climb = climbed (c .before .before .before .before .before .before) in
     let next-mark = c .before .before .before .before .before .before .before .next-mark in
     let args = farther .before .before .before .before .before .before .before .before .args in
     let if1 = far .before .before .before .if1 in
     let if2 = far .before .if2 in
-    rw (c .moved2 .ensures, climb .ensures, next-mark .ensures)
+    rw (c .moved2 .ensures, climb, next-mark .ensures)
     (run-report (args .self) (args .input .now) (args .from) _ _ _ (passed (far .before .before .before .before)) (if1 .taken) (if2 .left)
-    (rw (climb .ensures, next-mark .ensures) at (sym (c .before .before .is-silent .ensures) ∙ not-true _ (c .before .if3 .taken))))
+    (rw (climb, next-mark .ensures) at (sym (c .before .before .is-silent .ensures) ∙ not-true _ (c .before .if3 .taken))))
 
 loop-less : tie.Need-loop-less Inv-loop μ-loop
 loop-less c = omega (arith, c .before .before .before .before .before .before .before .before .before .before .if1 .taken)
@@ -149,14 +161,14 @@ loop-again : tie.Need-loop-again Inv-loop μ-loop
 loop-again c =
     let far = c .before .before .before .before .before .before .before .before in
     let farther = far .before .before .before .before .before .before .before .before in
-    let climb = c .before .before .before .before .before .climb in
+    let climb = climbed (c .before .before .before .before .before) in
     let next-mark = c .before .before .before .before .before .before .next-mark in
     let args = farther .before .before .before .before .before .before .before .args in
     let if1 = far .before .before .if1 in
     let if2 = far .if2 in
-    rw (climb .ensures, next-mark .ensures)
+    rw (climb, next-mark .ensures)
     (run-step (args .self) (args .input .now) (args .from) _ _ _ (passed (far .before .before .before)) (if1 .taken) (if2 .left)
-    (rw (climb .ensures, next-mark .ensures) at (sym (c .before .is-silent .ensures) ∙ not-false _ (c .if3 .left))))
+    (rw (climb, next-mark .ensures) at (sym (c .before .is-silent .ensures) ∙ not-false _ (c .if3 .left))))
 
 loop-less-2 : tie.Need-loop-less-2 Inv-loop μ-loop
 loop-less-2 c = omega (arith, c .if1 .left, c .before .before .before .before .loop-test .taken)

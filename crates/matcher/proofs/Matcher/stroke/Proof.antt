@@ -43,7 +43,7 @@ climb-requires c κs =
     let if1 = c .before .before .before .before .before .before .before .if1 in
     let fits2 = c .before .before .before .before .before .before .before .before .fits2 in
     let q = sound (args .self) (sym (fits2 .ensures) ∙ not-false (fits2 .result) (if1 .left)) in
-    rw (c .before .next-mark .ensures) (card-of q .long, card-of q .short, c .shifts .ensures, refl, stages-fit (args .self) q)
+    rw (c .before .next-mark .ensures) (card-of q .long, card-of q .short, refl, stages-fit (args .self) q)
 
 moved-requires : tie.Need-moved-requires
 moved-requires c κs = search needs
@@ -54,6 +54,7 @@ returns-3 c =
     let if1 = c .before .before .before .before .before .before .before .before .before .before .before .if1 in
     let if2 = c .before .before .before .before .before .before .before .before .if2 in
     let climb = c .before .before .before .climb in
+    let shifts = c .before .before .before .before .shifts in
     let next-mark = c .before .before .before .before .before .next-mark in
     let fits2 = c .before .before .before .before .before .before .before .before .before .before .before .before .fits2 in
     rw (
@@ -61,7 +62,7 @@ returns-3 c =
       not-false (fits2 .result) (if1 .left),
       lt-ltb _ _ (if2 .left),
       c .moved .ensures,
-      climb .ensures,
+      climb .ensures (shifts .ensures),
       next-mark .ensures,
     )
     (refl, (refl, refl))

@@ -1,0 +1,112 @@
+-- What a byte brings to a watch that shares its key, t and F_t with others: it is refused, passes quietly, or the stages are visited.
+-- Assumes nothing.
+use Prim.Native.Nat.{ℕ, suc, _≤_, _<_}
+use mathlib.Core.Path.{_≡_, refl, sym, _∙_, ap}
+use mathlib.Core.Bool.{true, false}
+use mathlib.Core.List.{[], _∷_}
+use lib.Dec.{leb, eqb}
+use lib.ListN.{getD}
+use borrow.Author.Tests.{lt-ltb, le-ltb}
+use Rattle.fingerprint.specs.declared.Key.{Key}
+use Rattle.fingerprint.specs.Fingerprint.{sameKey, same, empty, bytePrint}
+use Rattle.fingerprint.proofs.Laws.{same-key-eq}
+use Rattle.lists.proofs.Cases.{Each, each}
+use Rattle.refusal.specs.Number.{number}
+use Rattle.stage.specs.Stage.{maxTaken}
+use Rattle.stage.specs.Stages.{allFrom}
+use Rattle.matcher.specs.declared.Matcher.{Matcher}
+use Rattle.matcher.specs.declared.Turn.{Turn}
+use Rattle.matcher.specs.declared.Powers.{Powers}
+use Rattle.matcher.specs.Matcher.{matcherFits}
+use Rattle.matcher.specs.Stroke.{noAnswer, compared, walked, strokeRefusal, strokeAnswer, afterStroke}
+use Rattle.matcher.specs.Shared.{powersOf, sharedFits, sharedRefusal, sharedAnswer, sharedStages}
+use Rattle.matcher.proofs.Sound.{after-taken, answer-taken}
+use Rattle.matcher.proofs.Quiet.{Calm, quiet-answer, quiet-after}
+
+-- What is handed back, where the key is the one that is shared.
+pub record Brings (key : Key) (since : ℕ) (w : Matcher) (byte : ℕ) (r : Turn) : Type 0 where
+  pub verdict : number (r .verdict) ≡ sharedRefusal key since w
+  pub stages : r .stages ≡ sharedStages key since w byte
+  pub answer : r .answer ≡ sharedAnswer key since w byte
+
+-- The powers are those of one key at most.
+pub brought :
+    (powers : Powers) (since : ℕ) (w : Matcher) (byte : ℕ) (r : Turn)
+    → (powers ≡ powersOf (powers .key) → Brings (powers .key) since w byte r)
+    → ((key : Key) → powers ≡ powersOf key → number (r .verdict) ≡ sharedRefusal key since w)
+    × (((key : Key) → powers ≡ powersOf key → r .stages ≡ sharedStages key since w byte)
+    × ((key : Key) → powers ≡ powersOf key → r .answer ≡ sharedAnswer key since w byte))
+brought powers since w byte r f =
+    let under : (key : Key) → powers ≡ powersOf key → Brings key since w byte r =
+    λ key e. let own : powers .key ≡ key = ap (λ (p : Powers). p .key) e in rw own at (f (e ∙ ap powersOf (sym own)))
+    in
+    (λ key e. under key e .verdict, (λ key e. under key e .stages, λ key e. under key e .answer))
+
+module _ (key : Key) (since : ℕ) (w : Matcher) where
+  -- A byte that is refused leaves the stages as they were.
+  brings-nothing :
+      (n byte : ℕ) (r : Turn)
+      → eqb n 0 ≡ false
+      → sharedRefusal key since w ≡ n
+      → number (r .verdict) ≡ n
+      → r .stages ≡ w .stages
+      → r .answer ≡ noAnswer
+      → Brings key since w byte r
+  unfolding sharedAnswer sharedStages
+  brings-nothing n byte r some e v s a = record { verdict = v ∙ sym e; stages = rw (e, some) s; answer = rw (e, some) a }
+
+  pub brings-misfit :
+      (byte : ℕ) (r : Turn)
+      → sharedFits key since w ≡ false
+      → number (r .verdict) ≡ 10
+      → r .stages ≡ w .stages
+      → r .answer ≡ noAnswer
+      → Brings key since w byte r
+  brings-misfit byte r f = brings-nothing 10 byte r refl (rw f)
+
+  -- What fits among the others: its key is theirs, and it is no misfit.
+  module _ (fits : sharedFits key since w ≡ true) where
+    tests : Each (sameKey (w .signature .key) key ∷ leb since (w .now .at) ∷ matcherFits w ∷ allFrom since (w .stages) ∷ [])
+    tests = each (sameKey (w .signature .key) key) (leb since (w .now .at) ∷ matcherFits w ∷ allFrom since (w .stages) ∷ []) fits
+
+    pub shared-key : w .signature .key ≡ key
+    shared-key = same-key-eq _ _ (tests .0)
+
+    pub shared-own : matcherFits w ≡ true
+    shared-own = tests .1 .1 .0
+
+    pub brings-spent :
+        (byte : ℕ) (r : Turn)
+        → maxTaken ≤ w .now .at
+        → number (r .verdict) ≡ 6
+        → r .stages ≡ w .stages
+        → r .answer ≡ noAnswer
+        → Brings key since w byte r
+    brings-spent byte r l = brings-nothing 6 byte r refl (rw (fits, le-ltb (w .now .at) maxTaken l))
+
+    -- A byte that is taken.
+    module _ (byte : ℕ) (r : Turn) (room : w .now .at < maxTaken) (accepted : number (r .verdict) ≡ 0) where
+      shared-taken : sharedRefusal key since w ≡ 0
+      shared-taken = rw (fits, lt-ltb (w .now .at) maxTaken room)
+
+      taken : strokeRefusal w ≡ 0
+      taken = rw (shared-own, lt-ltb (w .now .at) maxTaken room)
+
+      brings-own : r .stages ≡ afterStroke w byte .stages → r .answer ≡ strokeAnswer w byte → Brings key since w byte r
+      unfolding sharedAnswer sharedStages
+      brings-own s a =
+          record { verdict = accepted ∙ sym shared-taken; stages = rw shared-taken s; answer = rw shared-taken a }
+
+      pub brings-walk : r .stages ≡ walked w byte .stages → r .answer ≡ walked w byte .answer → Brings key since w byte r
+      brings-walk s a =
+          brings-own (s ∙ ap (λ (v : Matcher). v .stages) (sym (after-taken w byte taken))) (a ∙ sym (answer-taken w byte taken))
+
+      pub brings-quiet :
+          Calm w (suc (w .now .at))
+          → same (getD (w .signature .prints) 0 empty) (bytePrint byte) ≡ false
+          → r .stages ≡ w .stages
+          → r .answer ≡ compared noAnswer
+          → Brings key since w byte r
+      brings-quiet calm other s a =
+          brings-own (s ∙ ap (λ (v : Matcher). v .stages) (sym (quiet-after w byte shared-own room calm other)))
+          (a ∙ sym (quiet-answer w byte shared-own room calm other))
