@@ -1,0 +1,4 @@
+pub mod Marks
+pub mod Stages
+pub mod Walks
+pub mod Strokes
