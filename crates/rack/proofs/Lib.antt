@@ -1,0 +1,5 @@
+pub mod Finding
+pub mod Lookups
+pub mod Counts
+pub mod Labels
+pub mod Striking
