@@ -1,0 +1,5 @@
+pub mod Calls
+pub mod Ledger
+pub mod Statement
+pub mod Names
+pub mod AnyRack
