@@ -1,0 +1,25 @@
+-- `rack_trials::numbers::same_place` is safe and ends.
+use borrow.Author.Needs.{needs}
+use Prim.Native.Nat.{_-_}
+use Rattle.rack_trials.proofs.numbers.same_place.Statement.{statement}
+use Rattle.rack_trials.proofs.numbers.same_place.Tie as tie
+
+abbrev Inv-loop : tie.InvT-loop
+Inv-loop a b same₀ i₀ same i = Unit {0}
+
+abbrev μ-loop : tie.MeasureT-loop
+μ-loop a b same₀ i₀ same i = 165 - i
+
+pub same-place-spec : {M : Type 1} → statement M
+same-place-spec =
+    tie.close
+    (tie.spec
+    Inv-loop
+    μ-loop
+    (λ c. search needs)
+    (λ c κs. search needs)
+    (λ c κs. search needs)
+    (λ c. search needs)
+    (λ c. search needs)
+    (λ c. search needs)
+    (λ c. search needs))

@@ -1,0 +1,285 @@
+// The numbers of a rack, each by its place: read, compared and replaced.
+use crate::print::number;
+use fingerprint::Fingerprint;
+use fingerprint::Key;
+use matcher::Answer;
+use matcher::Ring;
+use rack::Place;
+use rack::Rack;
+use rack::Report;
+use rack::Reports;
+use signature::Signature;
+use stage::Gap;
+use stage::Mark;
+use stage::Progression;
+use stage::Stage;
+
+// Numbers of a place: its name and count, then its card's, of which print i is at PRINTS + i, then seven for each stage.
+pub const NAME: u32 = 0;
+
+pub const SINCE: u32 = 1;
+
+pub const LENGTH: u32 = 2;
+
+pub const CARD_KEY: u32 = 3;
+
+pub const PRINTS: u32 = 4;
+
+pub const STAGES: u32 = 25;
+
+pub const NUMBERS: u32 = 165;
+
+// The numbers of a stage.
+pub const HELD: u32 = 0;
+
+pub const FIRST: u32 = 1;
+
+pub const F_FIRST: u32 = 2;
+
+pub const LAST: u32 = 3;
+
+pub const F_LAST: u32 = 4;
+
+pub const STEP: u32 = 5;
+
+pub const STEP_PRINT: u32 = 6;
+
+// The numbers of the rack that are of no place stand in a place of their own.
+pub const ITSELF: u32 = 16;
+
+pub const KEY: u32 = 0;
+
+pub const T: u32 = 1;
+
+pub const F_T: u32 = 2;
+
+// The card that is put in, and no place: no number of the rack is replaced.
+pub const CARD: u32 = 17;
+
+pub const NONE: u32 = 18;
+
+fn stage_number(stage: Stage, i: u32) -> u32 {
+    let first = stage.first;
+    let last = stage.last;
+    let step = stage.step;
+    number(
+        &[
+            stage.held,
+            first.at,
+            first.print.number(),
+            last.at,
+            last.print.number(),
+            step.length,
+            step.print.number(),
+        ],
+        i as usize,
+    )
+}
+
+// Number i of a place.
+fn place_number(place: Place, i: u32) -> u32 {
+    let card = place.signature;
+    let stages = place.stages;
+    if i < PRINTS {
+        return number(
+            &[
+                place.name as u32,
+                place.since,
+                card.length,
+                card.key.number(),
+            ],
+            i as usize,
+        );
+    }
+    if i < STAGES {
+        let print = card.prints[(i - PRINTS) as usize];
+        return print.number();
+    }
+    if i < NUMBERS {
+        let stage = stages[((i - STAGES) / 7) as usize];
+        return stage_number(stage, (i - STAGES) % 7);
+    }
+    0
+}
+
+fn same_place(a: Place, b: Place) -> bool {
+    let mut same = true;
+    let mut i: u32 = 0;
+    while i < NUMBERS {
+        same = same && place_number(a, i) == place_number(b, i);
+        i = i + 1;
+    }
+    same
+}
+
+fn same_places(a: [Place; 16], b: [Place; 16]) -> bool {
+    let mut same = true;
+    let mut i: usize = 0;
+    while i < 16 {
+        let x = a[i];
+        let y = b[i];
+        same = same && same_place(x, y);
+        i = i + 1;
+    }
+    same
+}
+
+// Whether two racks are equal.
+pub(crate) fn same_rack(a: Rack, b: Rack) -> bool {
+    let x = a.places;
+    let y = b.places;
+    let now = a.now;
+    let other = b.now;
+    let same_now = now.at == other.at && now.print.equals(other.print);
+    a.key.equals(b.key) && same_now && same_places(x, y)
+}
+
+fn is_no_set(set: Progression) -> bool {
+    set.first == 0 && set.step == 0 && set.many == 0
+}
+
+fn are_no_sets(answer: Answer) -> bool {
+    let mut none = true;
+    let mut i: usize = 0;
+    while i < 20 {
+        let set = answer.sets[i];
+        none = none && is_no_set(set);
+        i = i + 1;
+    }
+    none
+}
+
+fn is_silent(ring: Ring) -> bool {
+    if let Ring::At(start) = ring {
+        return false;
+    }
+    true
+}
+
+// Whether a report is all 0, as it stands where there is none.
+pub(crate) fn is_no_report(report: Report) -> bool {
+    let answer = report.answer;
+    let ring = answer.ring;
+    let none = report.name == 0 && answer.asides == 0 && answer.comparisons == 0;
+    none && is_silent(ring) && are_no_sets(answer)
+}
+
+fn are_no_reports(reports: [Report; 16]) -> bool {
+    let mut none = true;
+    let mut i: usize = 0;
+    while i < 16 {
+        let report = reports[i];
+        none = none && is_no_report(report);
+        i = i + 1;
+    }
+    none
+}
+
+// Whether there is no report at all, as beside a refusal.
+pub(crate) fn is_nothing(reports: Reports) -> bool {
+    let list = reports.reports;
+    reports.many == 0 && reports.comparisons == 0 && are_no_reports(list)
+}
+
+// One of two numbers.
+fn pick(chosen: bool, value: u32, other: u32) -> u32 {
+    if chosen { value } else { other }
+}
+
+// A print with its number replaced, or as it was.
+fn picked(chosen: bool, value: u32, print: Fingerprint) -> Fingerprint {
+    Fingerprint::of_number(pick(chosen, value, print.number()))
+}
+
+fn changed_prints(before: [Fingerprint; 21], i: u32, value: u32) -> [Fingerprint; 21] {
+    let mut prints = before;
+    if i < PRINTS {
+        return prints;
+    }
+    if i - PRINTS < 21 {
+        prints[(i - PRINTS) as usize] = Fingerprint::of_number(value);
+    }
+    prints
+}
+
+// A card with number i of its place replaced.
+pub(crate) fn changed_card(card: Signature, i: u32, value: u32) -> Signature {
+    let before = card.prints;
+    let prints = changed_prints(before, i, value);
+    Signature {
+        length: pick(i == LENGTH, value, card.length),
+        key: Key::new(pick(i == CARD_KEY, value, card.key.number())),
+        prints,
+    }
+}
+
+fn changed_stage(stage: Stage, i: u32, value: u32) -> Stage {
+    Stage {
+        held: pick(i == HELD, value, stage.held),
+        first: Mark {
+            at: pick(i == FIRST, value, stage.first.at),
+            print: picked(i == F_FIRST, value, stage.first.print),
+        },
+        last: Mark {
+            at: pick(i == LAST, value, stage.last.at),
+            print: picked(i == F_LAST, value, stage.last.print),
+        },
+        step: Gap {
+            length: pick(i == STEP, value, stage.step.length),
+            print: picked(i == STEP_PRINT, value, stage.step.print),
+        },
+    }
+}
+
+fn changed_stages(before: [Stage; 20], i: u32, value: u32) -> [Stage; 20] {
+    let mut stages = before;
+    if i < STAGES {
+        return stages;
+    }
+    let at = (i - STAGES) / 7;
+    if at < 20 {
+        let stage = stages[at as usize];
+        stages[at as usize] = changed_stage(stage, (i - STAGES) % 7, value);
+    }
+    stages
+}
+
+// A place with number i replaced.
+fn changed_place(place: Place, i: u32, value: u32) -> Place {
+    let before = place.stages;
+    let card = place.signature;
+    let stages = changed_stages(before, i, value);
+    Place {
+        name: (pick(i == NAME, value, place.name as u32) % 65536) as u16,
+        since: pick(i == SINCE, value, place.since),
+        signature: changed_card(card, i, value),
+        stages,
+    }
+}
+
+// A rack with a number of its own replaced.
+fn changed_itself(rack: Rack, i: u32, value: u32) -> Rack {
+    let places = rack.places;
+    let now = rack.now;
+    Rack {
+        key: Key::new(pick(i == KEY, value, rack.key.number())),
+        now: Mark {
+            at: pick(i == T, value, now.at),
+            print: picked(i == F_T, value, now.print),
+        },
+        places,
+    }
+}
+
+// A rack with number i of a place replaced.
+pub(crate) fn changed_rack(before: Rack, place: u32, i: u32, value: u32) -> Rack {
+    if place == ITSELF {
+        return changed_itself(before, i, value);
+    }
+    let mut rack = before;
+    if place < 16 {
+        let was = rack.places[place as usize];
+        rack.places[place as usize] = changed_place(was, i, value);
+    }
+    rack
+}
