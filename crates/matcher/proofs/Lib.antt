@@ -7,5 +7,6 @@ pub mod Rounds
 pub mod Doubling
 pub mod SharedPowers
 pub mod Quiet
+mod Skipping
 pub mod Shared
 pub mod Running

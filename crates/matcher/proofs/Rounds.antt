@@ -1,11 +1,13 @@
 -- One byte's walk over the stages: what the loop keeps, so that each stage fits where it is visited and every number stays in range.
 -- Assumes nothing.
-use Prim.Native.Nat.{ℕ, suc, _+_, _-_, _≤_, _<_}
+use Prim.Native.Nat.{ℕ, suc, _+_, _-_, _*_, _≤_, _<_}
 use mathlib.Core.Path.{_≡_, refl, sym, _∙_, ap}
 use mathlib.Core.Bool.{true, false, not}
 use mathlib.Core.List.{List}
 use native.Mathlib.Decide.{decLt}
 use native.Mathlib.Omega.{arith}
+use mir.Syntax.{w32, w64}
+use mir.Val.{Fits}
 use borrow.Author.Tests.{eqb-true, eqb-false, not-true}
 use lib.Dec.{eqb}
 use lib.ListN.{getD}
@@ -45,6 +47,37 @@ pub record Room (k i : ℕ) (a : Answer) : Type 0 where
   pub asides : a .asides + i ≤ k
   pub spare : i < k → a .asides + i < k
   pub count : a .comparisons + i ≤ k
+
+-- A number below n that places a print or a stage in an array: what the code computes with it stays in range.
+pub record Index (n x : ℕ) : Type 0 where
+  pub cast : Fits w64 x
+  pub print : Fits w64 (x * 4)
+  pub stage : Fits w64 (x * 28)
+  pub within : x < n
+
+index : (n x : ℕ) → x < n → n ≤ 21 → Index n x
+index n x l m = record { cast = omega arith; print = omega arith; stage = omega arith; within = l }
+
+module _ {k i : ℕ} {a : Answer} (q : Room k i a) where
+  pub here : Index 21 i
+  here = index 21 i (omega (arith, q .most, q .within)) (omega arith)
+
+  pub below : Index 20 (i - 1)
+  below = index 20 (i - 1) (omega (arith, q .most, q .within)) (omega arith)
+
+  pub not-last : (i ≡ k → ⊥) → i < 20
+  not-last e = omega (arith, q .most, q .within)
+
+  pub count-fits : Fits w32 (a .comparisons + 1)
+  count-fits = omega (arith, q .most, q .count)
+
+  -- a stage is left to visit
+  module _ (pos : 0 < i) where
+    pub one-less : i - 1 < i
+    one-less = omega arith
+
+    pub set-fits : a .asides < stageCount
+    set-fits = omega (arith, q .most, q .asides)
 
 -- Visiting the stage below n: none is set aside, or a start enters the stage above, which is none where it rings.
 module _ (k n : ℕ) (a b : Answer) (pos : 0 < n) (q : Room k n a) where

@@ -11,7 +11,7 @@ use Rattle.stage.specs.Stage.{ripeAt}
 use Rattle.stage.specs.Stages.{stageAt}
 use Rattle.matcher.specs.Stroke.{matches}
 use Rattle.matcher.specs.Skip.{Shifts}
-use Rattle.matcher.proofs.Rounds.{Turn, turn-begin, turn-unripe, turn-shift, turn-dropped, turn-rung, turn-entered, turn-end}
+use Rattle.matcher.proofs.Rounds.{here, below, not-last, count-fits, one-less, set-fits, Turn, turn-begin, turn-unripe, turn-shift, turn-dropped, turn-rung, turn-entered, turn-end}
 use Rattle.matcher.proofs.descend.Statement.{statement}
 use Rattle.matcher.proofs.descend.Tie as tie
 
@@ -61,13 +61,13 @@ sub-i : tie.Need-sub-i Inv-loop μ-loop
 sub-i c = search needs
 
 cast-s : tie.Need-cast-s Inv-loop μ-loop
-cast-s c = search needs
+cast-s c = below (c .before .loop .inv .room) .cast
 
 mul-s : tie.Need-mul-s Inv-loop μ-loop
-mul-s c = search needs
+mul-s c = below (c .before .loop .inv .room) .stage
 
 element-copy-out-s : tie.Need-element-copy-out-s Inv-loop μ-loop
-element-copy-out-s c = omega (arith, c .before .loop .inv .room .most, c .before .loop .inv .room .within)
+element-copy-out-s c = below (c .before .loop .inv .room) .within
 
 is-ripe-requires : tie.Need-is-ripe-requires Inv-loop μ-loop
 is-ripe-requires c κs = search needs
@@ -76,54 +76,34 @@ take-off-requires : tie.Need-take-off-requires Inv-loop μ-loop
 take-off-requires c κs = search needs
 
 cast-t27 : tie.Need-cast-t27 Inv-loop μ-loop
-cast-t27 c =
-    let loop = c .before .before .before .before .before .before .loop in
-    omega (arith, loop .inv .room .most, loop .inv .room .within)
+cast-t27 c = below (c .before .before .before .before .before .before .loop .inv .room) .cast
 
 mul-t28 : tie.Need-mul-t28 Inv-loop μ-loop
-mul-t28 c =
-    let loop = c .before .before .before .before .before .before .loop in
-    omega (arith, loop .inv .room .most, loop .inv .room .within)
+mul-t28 c = below (c .before .before .before .before .before .before .loop .inv .room) .stage
 
 element-set-from-w : tie.Need-element-set-from-w Inv-loop μ-loop
-element-set-from-w c =
-    let loop = c .before .before .before .before .before .before .loop in
-    omega (arith, loop .inv .room .most, loop .inv .room .within)
+element-set-from-w c = below (c .before .before .before .before .before .before .loop .inv .room) .within
 
 add-w : tie.Need-add-w Inv-loop μ-loop
-add-w c =
-    let loop = c .before .before .before .before .before .before .loop in
-    omega (arith, loop .inv .room .most, loop .inv .room .count)
+add-w c = count-fits (c .before .before .before .before .before .before .loop .inv .room)
 
 cast-matches : tie.Need-cast-matches Inv-loop μ-loop
-cast-matches c =
-    let loop = c .before .before .before .before .before .before .before .loop in
-    omega (arith, loop .inv .room .most, loop .inv .room .within)
+cast-matches c = here (c .before .before .before .before .before .before .before .loop .inv .room) .cast
 
 mul-matches : tie.Need-mul-matches Inv-loop μ-loop
-mul-matches c =
-    let loop = c .before .before .before .before .before .before .before .loop in
-    omega (arith, loop .inv .room .most, loop .inv .room .within)
+mul-matches c = here (c .before .before .before .before .before .before .before .loop .inv .room) .print
 
 array-copy-out-matches : tie.Need-array-copy-out-matches Inv-loop μ-loop
-array-copy-out-matches c =
-    let loop = c .before .before .before .before .before .before .before .loop in
-    omega (arith, loop .inv .room .most, loop .inv .room .within)
+array-copy-out-matches c = here (c .before .before .before .before .before .before .before .loop .inv .room) .within
 
 cast-matches-2 : tie.Need-cast-matches-2 Inv-loop μ-loop
-cast-matches-2 c =
-    let loop = c .before .before .before .before .before .before .before .before .loop in
-    omega (arith, loop .inv .room .most, loop .inv .room .within)
+cast-matches-2 c = here (c .before .before .before .before .before .before .before .before .loop .inv .room) .cast
 
 mul-matches-2 : tie.Need-mul-matches-2 Inv-loop μ-loop
-mul-matches-2 c =
-    let loop = c .before .before .before .before .before .before .before .before .loop in
-    omega (arith, loop .inv .room .most, loop .inv .room .within)
+mul-matches-2 c = here (c .before .before .before .before .before .before .before .before .loop .inv .room) .print
 
 array-copy-out-matches-2 : tie.Need-array-copy-out-matches-2 Inv-loop μ-loop
-array-copy-out-matches-2 c =
-    let loop = c .before .before .before .before .before .before .before .before .loop in
-    omega (arith, loop .inv .room .most, loop .inv .room .within)
+array-copy-out-matches-2 c = here (c .before .before .before .before .before .before .before .before .loop .inv .room) .within
 
 matches-requires : tie.Need-matches-requires Inv-loop μ-loop
 matches-requires c κs = search needs
@@ -132,9 +112,7 @@ with-ring-requires : tie.Need-with-ring-requires Inv-loop μ-loop
 with-ring-requires c κs = search needs
 
 loop-less : tie.Need-loop-less Inv-loop μ-loop
-loop-less c =
-    let far = c .before .before .before .before .before .before .before .before in
-    omega (arith, far .before .before .before .before .before .loop-test .taken)
+loop-less c = one-less (c .before .before .before .before .before .before .before .before .before .before .before .before .before .before .loop .inv .room) (c .before .before .before .before .before .before .before .before .before .before .before .before .before .loop-test .taken)
 
 loop-again : tie.Need-loop-again Inv-loop μ-loop
 loop-again c =
@@ -153,55 +131,34 @@ loop-again c =
     (λ table. sym (judged (c .before .before .before .before) table) ∙ if2 .taken) (if3 .taken))
 
 cast-enter : tie.Need-cast-enter Inv-loop μ-loop
-cast-enter c =
-    let loop = c .before .before .before .before .before .before .before .before .before .before .before .before .loop in
-    omega (arith, loop .inv .room .most, loop .inv .room .within)
+cast-enter c = here (c .before .before .before .before .before .before .before .before .before .before .before .before .loop .inv .room) .cast
 
 mul-enter : tie.Need-mul-enter Inv-loop μ-loop
-mul-enter c =
-    let loop = c .before .before .before .before .before .before .before .before .before .before .before .before .loop in
-    omega (arith, loop .inv .room .most, loop .inv .room .within)
+mul-enter c = here (c .before .before .before .before .before .before .before .before .before .before .before .before .loop .inv .room) .stage
 
 element-copy-out-enter : tie.Need-element-copy-out-enter Inv-loop μ-loop
-element-copy-out-enter c =
-    let loop = c .before .before .before .before .before .before .before .before .before .before .before .before .loop in
-    omega (arith, loop .inv .room .most, loop .inv .room .within)
+element-copy-out-enter c = not-last (c .before .before .before .before .before .before .before .before .before .before .before .before .loop .inv .room) (c .if3 .left)
 
 enter-requires : tie.Need-enter-requires Inv-loop μ-loop
 enter-requires c κs = search needs
 
 cast-stage : tie.Need-cast-stage Inv-loop μ-loop
-cast-stage c =
-    let loop = c .before .before .before .before .before .before .before .before .before .before .before .before .before .before .before .loop in
-    omega (arith, loop .inv .room .most, loop .inv .room .within)
+cast-stage c = here (c .before .before .before .before .before .before .before .before .before .before .before .before .before .before .before .loop .inv .room) .cast
 
 mul-stage : tie.Need-mul-stage Inv-loop μ-loop
-mul-stage c =
-    let loop = c .before .before .before .before .before .before .before .before .before .before .before .before .before .before .before .loop in
-    omega (arith, loop .inv .room .most, loop .inv .room .within)
+mul-stage c = here (c .before .before .before .before .before .before .before .before .before .before .before .before .before .before .before .loop .inv .room) .stage
 
 element-set-from-stage : tie.Need-element-set-from-stage Inv-loop μ-loop
-element-set-from-stage c =
-    let loop = c .before .before .before .before .before .before .before .before .before .before .before .before .before .before .before .loop in
-    omega (arith, loop .inv .room .most, loop .inv .room .within)
+element-set-from-stage c = not-last (c .before .before .before .before .before .before .before .before .before .before .before .before .before .before .before .loop .inv .room) (c .before .before .before .if3 .left)
 
 enum-told : tie.Need-enum-told Inv-loop μ-loop
 enum-told c = search needs
 
 with-requires : tie.Need-with-requires Inv-loop μ-loop
-with-requires c κs =
-    let far = c .before .before .before .before .before .before .before .before in
-    let farther = far .before .before .before .before .before .before .before .before in
-    let loop-test = farther .before .loop-test in
-    let loop = farther .before .before .loop in
-    omega (arith, loop .inv .room .asides, loop .inv .room .most, loop-test .taken)
+with-requires c κs = set-fits (c .before .before .before .before .before .before .before .before .before .before .before .before .before .before .before .before .before .before .loop .inv .room) (c .before .before .before .before .before .before .before .before .before .before .before .before .before .before .before .before .before .loop-test .taken)
 
 loop-less-2 : tie.Need-loop-less-2 Inv-loop μ-loop
-loop-less-2 c =
-    let far = c .before .before .before .before .before .before .before .before in
-    let farther = far .before .before .before .before .before .before .before .before in
-    let loop-test = farther .before .before .loop-test in
-    omega (arith, loop-test .taken)
+loop-less-2 c = one-less (c .before .before .before .before .before .before .before .before .before .before .before .before .before .before .before .before .before .before .before .loop .inv .room) (c .before .before .before .before .before .before .before .before .before .before .before .before .before .before .before .before .before .before .loop-test .taken)
 
 loop-again-2 : tie.Need-loop-again-2 Inv-loop μ-loop
 loop-again-2 c =
@@ -224,11 +181,7 @@ enum-told-2 : tie.Need-enum-told-2 Inv-loop μ-loop
 enum-told-2 c = search needs
 
 loop-less-3 : tie.Need-loop-less-3 Inv-loop μ-loop
-loop-less-3 c =
-    let far = c .before .before .before .before .before .before .before .before in
-    let farther = far .before .before .before .before .before .before .before .before in
-    let loop-test = farther .loop-test in
-    omega (arith, loop-test .taken)
+loop-less-3 c = one-less (c .before .before .before .before .before .before .before .before .before .before .before .before .before .before .before .before .before .loop .inv .room) (c .before .before .before .before .before .before .before .before .before .before .before .before .before .before .before .before .loop-test .taken)
 
 loop-again-3 : tie.Need-loop-again-3 Inv-loop μ-loop
 loop-again-3 c =
@@ -249,7 +202,7 @@ loop-again-3 c =
     (enter .result) (enter .ensures) _ (rw (c .enum-told2 .given .1)))
 
 loop-less-4 : tie.Need-loop-less-4 Inv-loop μ-loop
-loop-less-4 c = omega (arith, c .before .before .before .before .before .before .before .before .before .before .loop-test .taken)
+loop-less-4 c = one-less (c .before .before .before .before .before .before .before .before .before .before .before .loop .inv .room) (c .before .before .before .before .before .before .before .before .before .before .loop-test .taken)
 
 loop-again-4 : tie.Need-loop-again-4 Inv-loop μ-loop
 loop-again-4 c =
@@ -265,7 +218,7 @@ loop-again-4 c =
     (λ table. sym (judged (c .before) table) ∙ c .if2 .left))
 
 loop-less-5 : tie.Need-loop-less-5 Inv-loop μ-loop
-loop-less-5 c = omega (arith, c .before .before .before .loop-test .taken)
+loop-less-5 c = one-less (c .before .before .before .before .loop .inv .room) (c .before .before .before .loop-test .taken)
 
 loop-again-5 : tie.Need-loop-again-5 Inv-loop μ-loop
 loop-again-5 c =

@@ -1,23 +1,23 @@
 -- `matcher::skip` meets its contract: what is still to be passed over leads where all of it led at first.
 use borrow.Author.Needs.{needs}
-use Prim.Native.Nat.{_+_, _-_, _≤_, min}
-use mathlib.Core.Path.{_≡_, sym, _∙_, ap}
+use Prim.Native.Nat.{_-_}
+use mathlib.Core.Path.{sym, _∙_}
 use native.Mathlib.Omega.{arith}
-use lib.ListN.{length, drop}
-use Rattle.stage.specs.declared.Mark.{Mark}
-use Rattle.stage.specs.Stage.{maxTaken}
-use Rattle.matcher.specs.Skip.{skipped}
-use Rattle.matcher.proofs.Quiet.{skipped-none, skipped-stop, skipped-step}
+use Rattle.matcher.proofs.Skipping.{
+  Skipping,
+  skipping-begin,
+  skipping-end,
+  byte-inside,
+  mark-below,
+  fewer,
+  skipping-stop,
+  skipping-step,
+}
 use Rattle.matcher.proofs.skip.Statement.{statement}
 use Rattle.matcher.proofs.skip.Tie as tie
 
 abbrev Inv-loop : tie.InvT-loop
-Inv-loop key first until input from end at₀ mark₀ at mark =
-    (at ≤ end)
-    × (end ≤ length input)
-    × (mark .at + (end - at) ≤ maxTaken)
-    × (skipped key first (end - at) mark (drop at input)
-    ≡ skipped key first (min (until - mark₀ .at) (length input - from)) mark₀ (drop from input))
+Inv-loop key first until input from end at₀ mark₀ at mark = Skipping key first until input from mark₀ end at mark
 
 abbrev μ-loop : tie.MeasureT-loop
 μ-loop key first until input from end at₀ mark₀ at mark = end - at
@@ -31,10 +31,11 @@ reach-requires c κs = search needs
 loop-holds : tie.Need-loop-holds Inv-loop μ-loop
 loop-holds c =
     let args = c .before .before .before .args in
-    (omega arith, omega arith, omega arith, ap (λ n. skipped (args .key) (args .first) n (args .start) (drop (args .from) (args .input .now))) (omega arith))
+    skipping-begin (args .key) (args .first) (args .until) (args .input .now) (args .from) (args .start) (c .reach .result) (c .before .before .before .pre) (omega arith) (omega arith)
+    (rw (c .before .distance .ensures) at (c .reach .ensures))
 
 shared-slice-read-byte : tie.Need-shared-slice-read-byte Inv-loop μ-loop
-shared-slice-read-byte c = search needs
+shared-slice-read-byte c = byte-inside (c .before .before .loop .inv) (c .before .loop-test .taken)
 
 of-byte-requires : tie.Need-of-byte-requires Inv-loop μ-loop
 of-byte-requires c κs = search needs
@@ -44,45 +45,26 @@ equals-requires c κs = search needs
 
 returns : tie.Need-returns Inv-loop μ-loop
 returns c =
-    let args = c .before .before .before .before .before .before .before .before .before .args in
-    let loop = c .before .before .before .before .before .loop in
-    let reach = c .before .before .before .before .before .before .reach in
     let stop = sym (rw (c .before .before .of-byte .ensures) at (c .before .equals .ensures)) ∙ c .if1 .taken in
-    let left = reach .result - loop .at in
-    sym (skipped-stop (args .key) (args .first) (args .input .now) (loop .mark) left (loop .at) (omega arith) (omega arith) stop)
-    ∙ loop .inv .3
+    skipping-stop (c .before .before .before .before .before .loop .inv) (c .before .before .before .before .loop-test .taken) stop
 
 next-mark-requires : tie.Need-next-mark-requires Inv-loop μ-loop
-next-mark-requires c κs = search needs
+next-mark-requires c κs = mark-below (c .before .before .before .before .before .loop .inv) (c .before .before .before .before .loop-test .taken)
 
 add-at : tie.Need-add-at Inv-loop μ-loop
 add-at c = search needs
 
 loop-less : tie.Need-loop-less Inv-loop μ-loop
-loop-less c = search needs
+loop-less c = fewer (c .before .before .before .before .before .before .loop .inv) (c .before .before .before .before .before .loop-test .taken)
 
 loop-again : tie.Need-loop-again Inv-loop μ-loop
 loop-again c =
-    let args = c .before .before .before .before .before .before .before .before .before .before .args in
-    let loop = c .before .before .before .before .before .before .loop in
-    let reach = c .before .before .before .before .before .before .before .reach in
-    let next-mark = c .next-mark in
     let on = sym (rw (c .before .before .before .of-byte .ensures) at (c .before .before .equals .ensures)) ∙ c .before .if1 .left in
-    let left = reach .result - loop .at in
-    let less : reach .result - (loop .at + 1) ≡ left - 1 = omega arith in (
-      omega arith,
-      loop .inv .1,
-      omega (arith, ap (λ (a : Mark). a .at) (next-mark .ensures)),
-      rw (next-mark .ensures, less)
-          (sym (skipped-step (args .key) (args .first) (args .input .now) (loop .mark) left (loop .at) (omega arith) (omega arith) on)
-          ∙ loop .inv .3),
-    )
+    skipping-step (c .before .before .before .before .before .before .loop .inv) (c .before .before .before .before .before .loop-test .taken) on
+    (c .next-mark .result) (c .next-mark .ensures)
 
 returns-2 : tie.Need-returns-2 Inv-loop μ-loop
-returns-2 c =
-    let args = c .before .before .before .before .before .args in
-    let reach = c .before .before .reach in
-    sym (skipped-none (args .key) (args .first) (args .input .now) (c .before .loop .mark) (reach .result - c .before .loop .at) (c .before .loop .at) (omega arith)) ∙ c .before .loop .inv .3
+returns-2 c = skipping-end (c .before .loop .inv) (c .loop-test .left)
 
 pub skip-spec : {M : Type 1} → statement M
 skip-spec =

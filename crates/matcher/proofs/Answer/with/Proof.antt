@@ -20,7 +20,7 @@ add-a : tie.Need-add-a
 add-a c = search needs
 
 returns : tie.Need-returns
-returns c = rw add-one (cc)
+returns c = rw (add-one, c .before .aside .given .1)
 
 enum-told : tie.Need-enum-told
 enum-told c = search needs

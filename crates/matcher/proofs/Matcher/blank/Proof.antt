@@ -10,7 +10,7 @@ origin-requires : tie.Need-origin-requires
 origin-requires c κs = search needs
 
 returns : tie.Need-returns
-returns c = cc
+returns c = rw (c .origin .ensures, c .before .none .ensures)
 
 pub blank-spec : {M : Type 1} → statement M
 blank-spec = tie.close (tie.spec none-requires origin-requires returns)

@@ -13,7 +13,7 @@ join-requires : tie.Need-join-requires
 join-requires c κs = search needs
 
 returns : tie.Need-returns
-returns c = cc
+returns c = rw (c .join .ensures)
 
 pub forward-spec : {M : Type 1} → statement M
 forward-spec = tie.close (tie.spec add-t6 cast-join join-requires returns)

@@ -13,7 +13,7 @@ cut-requires : tie.Need-cut-requires
 cut-requires c κs = search needs
 
 returns : tie.Need-returns
-returns c = cc
+returns c = rw (c .cut .ensures, c .before .before .distance .ensures)
 
 pub gap-to-spec : {M : Type 1} → statement M
 gap-to-spec = tie.close (tie.spec distance-requires cast-cut cut-requires returns)
