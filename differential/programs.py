@@ -1,4 +1,4 @@
-"""Building plain.rs and running printing programs."""
+"""Building the plain programs and running printing programs."""
 
 import os
 import subprocess
@@ -7,6 +7,7 @@ import time
 HERE = os.path.dirname(os.path.abspath(__file__))
 ROOT = os.path.dirname(HERE)
 UNDER_TEST = os.path.join(ROOT, "target", "bin", "report")
+MIDI = os.path.join(ROOT, "target", "bin", "midi")
 PANIC = 101                     # the exit status of a Rust program that panics
 
 
@@ -14,11 +15,11 @@ class Broken(Exception):
     """A program that did not come to an orderly end."""
 
 
-def build_plain(folder):
-    """Builds plain.rs into the folder; the path of the program."""
-    program = os.path.join(folder, "plain")
+def build_plain(folder, name="plain"):
+    """Builds plain.rs, or plain_midi.rs, into the folder; the path of the program."""
+    program = os.path.join(folder, name)
     subprocess.run(["rustc", "--edition", "2021", "-C", "opt-level=3", "-o", program,
-                    os.path.join(HERE, "plain.rs")], check=True)
+                    os.path.join(HERE, name + ".rs")], check=True)
     return program
 
 

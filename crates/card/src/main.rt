@@ -14,8 +14,6 @@ use libc::STDERR_FILENO;
 use libc::STDIN_FILENO;
 use libc::STDOUT_FILENO;
 use refusal::Verdict;
-use report_lines::Put;
-use report_lines::put_refusal;
 
 // The card was written; or it is refused; or a read failed; or the write did.
 enum Status {
@@ -52,15 +50,6 @@ fn complain() {
         STDERR_FILENO,
         b"card: one argument is wanted, the key, a decimal number of at most 10 digits\n",
     );
-}
-
-// The line of a refusal.
-fn say_refusal(number: u32) {
-    let mut line = io::buffer();
-    let put = put_refusal(&mut line, 0, number);
-    if let Put::Next(end) = put {
-        io::write_all(STDERR_FILENO, &line[..end]);
-    }
 }
 
 // Reads the passage, and writes its card.
@@ -111,7 +100,9 @@ fn say(outcome: Outcome) {
     let verdict = outcome.verdict;
     match status {
         Status::Written => {}
-        Status::Refused => say_refusal(verdict.number()),
+        Status::Refused => {
+            refusal_line::say(verdict.number());
+        }
         Status::Unreadable => os::fail(b"card: the passage cannot be read"),
         Status::Unwritable => os::fail(b"card: the card cannot be written"),
     }

@@ -6,7 +6,7 @@ use mathlib.Core.Bool.{cond}
 use native.Mathlib.Omega.{arith}
 use lib.Dec.{eqb}
 use Rattle.refusal.specs.declared.Refusal.{Refusal}
-use Rattle.refusal.specs.declared.Refusal.the-variants.{Empty, Overlong, Key, Unfinished, Surplus, Spent, NoSpace, Short, Kind, Misfit, OtherPassage, Full, NameTaken, NameAbsent}
+use Rattle.refusal.specs.declared.Refusal.the-variants.{Empty, Overlong, Key, Unfinished, Surplus, Spent, NoSpace, Short, Kind, Misfit, OtherPassage, Full, NameTaken, NameAbsent, NoTrack, Broken, OutsideBells}
 use Rattle.refusal.specs.declared.Verdict.{Verdict}
 use Rattle.refusal.specs.declared.Verdict.the-variants.{Accepted, Refused}
 use Rattle.refusal.specs.Number.{number}
@@ -27,7 +27,10 @@ verdictOf n =
     (cond (eqb n 12) (Refused Full)
     (cond (eqb n 13) (Refused NameTaken)
     (cond (eqb n 14) (Refused NameAbsent)
-    Accepted)))))))))))))
+    (cond (eqb n 15) (Refused NoTrack)
+    (cond (eqb n 16) (Refused Broken)
+    (cond (eqb n 17) (Refused OutsideBells)
+    Accepted))))))))))))))))
 
 told : (v : Verdict) → verdictOf (number v) ≡ v
 unfolding verdictOf
@@ -46,6 +49,9 @@ told (Refused OtherPassage) = refl
 told (Refused Full) = refl
 told (Refused NameTaken) = refl
 told (Refused NameAbsent) = refl
+told (Refused NoTrack) = refl
+told (Refused Broken) = refl
+told (Refused OutsideBells) = refl
 
 pub number-injective : (v u : Verdict) → number v ≡ number u → v ≡ u
 number-injective v u e = sym (told v) ∙ ap verdictOf e ∙ told u

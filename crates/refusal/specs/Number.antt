@@ -1,7 +1,7 @@
 -- Document 01's number for every refusal ("The board's refusals"). Contracts speak of verdicts by these numbers.
 use Prim.Native.Nat.{ℕ}
 use Rattle.refusal.specs.declared.Refusal.{Refusal}
-use Rattle.refusal.specs.declared.Refusal.the-variants.{Empty, Overlong, Key, Unfinished, Surplus, Spent, NoSpace, Short, Kind, Misfit, OtherPassage, Full, NameTaken, NameAbsent}
+use Rattle.refusal.specs.declared.Refusal.the-variants.{Empty, Overlong, Key, Unfinished, Surplus, Spent, NoSpace, Short, Kind, Misfit, OtherPassage, Full, NameTaken, NameAbsent, NoTrack, Broken, OutsideBells}
 use Rattle.refusal.specs.declared.Verdict.{Verdict}
 use Rattle.refusal.specs.declared.Verdict.the-variants.{Accepted, Refused}
 
@@ -20,6 +20,9 @@ refusalNumber OtherPassage = 11
 refusalNumber Full = 12
 refusalNumber NameTaken = 13
 refusalNumber NameAbsent = 14
+refusalNumber NoTrack = 15
+refusalNumber Broken = 16
+refusalNumber OutsideBells = 17
 
 -- 0 says that the call was accepted.
 abbrev pub number : Verdict → ℕ

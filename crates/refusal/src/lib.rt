@@ -17,6 +17,9 @@ pub enum Refusal {
     Full,
     NameTaken,
     NameAbsent,
+    NoTrack,
+    Broken,
+    OutsideBells,
 }
 
 // What a call says of itself: it was carried out, or it was refused and changed nothing.
@@ -44,6 +47,9 @@ impl Refusal {
             Refusal::Full => 12,
             Refusal::NameTaken => 13,
             Refusal::NameAbsent => 14,
+            Refusal::NoTrack => 15,
+            Refusal::Broken => 16,
+            Refusal::OutsideBells => 17,
         }
     }
 }

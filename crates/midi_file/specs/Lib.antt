@@ -1,0 +1,4 @@
+pub mod File
+pub mod Track
+pub mod Strokes
+pub mod Calls
