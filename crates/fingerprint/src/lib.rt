@@ -1,8 +1,6 @@
 // Karp-Rabin fingerprints of byte blocks (document 01, "Fingerprints").
 ghost use mathlib.Core.Path.{_≡_};
-ghost use Prim.Native.Nat.{_^_, _%_};
 ghost use Rattle.fingerprint.specs.Fingerprint.{
-  p,
   empty,
   pushed,
   joined,
@@ -80,29 +78,26 @@ impl Key {
         self.r == other.r
     }
 
-    // r to the n, modulo P.
+    // r to the n, modulo P. Each turn halves the exponent left and squares the base: product × base^left stays the power wanted.
     pub fn power(self, n: u64) -> Power
         ensures { λ a. ⌜ a ≡ power self n ⌝ }
     {
-        Power {
-            value: self.residue(n) as u32,
-        }
-    }
-
-    // r to the n, modulo P, as a number: by halving the exponent.
-    fn residue(self, n: u64) -> u64
-        ensures { λ v. ⌜ v ≡ (self .r) ^ n % p ⌝ }
-    {
+        let one = Power { value: 1 };
         if n == 0 {
-            return 1;
+            return one;
         }
-        let half = self.residue(n / 2);
-        let square = half * half % Fingerprint::P;
-        if n % 2 == 0 {
-            square
-        } else {
-            square * (self.r as u64) % Fingerprint::P
+        let r = self.r;
+        let mut product = one;
+        let mut base = one.times(Power { value: r }); // r, below P
+        let mut left = n;
+        while 1 < left {
+            if left % 2 == 1 {
+                product = product.times(base);
+            }
+            base = base.squared();
+            left = left / 2;
         }
+        product.times(base)
     }
 }
 
