@@ -1,4 +1,5 @@
-"""Fingerprints, cards and card records, written from document 01 alone.
+"""Fingerprints, cards and card records, written from document 01 and request A.4 of
+document 02 alone.
 
 Used to read cards (reference.py), to make inputs and to damage them (inputs.py).
 """
@@ -10,7 +11,7 @@ SMALLEST_KEY = 2                # "The key r is from 2 to 2147483646."
 LARGEST_KEY = 2147483646
 LONGEST_PASSAGE = 1048576       # "A passage has m bytes, 1 to 1048576."
 LONGEST_CARD_RECORD = 98        # "the first 98 bytes, the longest card record"
-CARD_KIND = 1
+CARD_KIND, PARKED_KIND = 3, 4   # A.4: "Cards become kind 3 and parked watches kind 4"
 
 SHORT, KIND, MISFIT, SPENT = 8, 9, 10, 6
 
@@ -25,15 +26,37 @@ class Refusal(Exception):
         self.number = number
 
 
+# ---- The value of a byte -----------------------------------------------------
+
+def value(byte):
+    """What a byte counts in a fingerprint."""
+    # A.4: "The office's planning sheets give byte b the value b + 1, so that stroke 0
+    # isn't nothing."
+    return byte + 1
+
+
+# The value of a byte, and what follows from it: the kind of a card record, and the first
+# fingerprints that are no misfit.
+Rule = namedtuple("Rule", "value card_kind first_prints")
+
+# A.4: "A card's first fingerprint, once reached, is then 1 to 256, and any other a
+# misfit."
+NOW = Rule(value, CARD_KIND, range(1, 257))
+
+# Before A.4, as document 01 has it: "(f × r + b) mod p", "Card, kind 1", "a first
+# fingerprint over 255". Only what must be the same under both values is worked out so
+# (before_a4 in reference.py).
+BEFORE_A4 = Rule(lambda byte: byte, 1, range(256))
+
+
 # ---- Fingerprints and tested beginnings ------------------------------------
 
-def fingerprint(data, key):
+def fingerprint(data, key, rule=NOW):
     """The fingerprint of these bytes."""
-    # "The fingerprint of no bytes is 0. One byte b more turns f into
-    # (f × r + b) mod p."
+    # "The fingerprint of no bytes is 0." A.4: "f becomes (f × r + b + 1) mod p"
     f = 0
     for b in data:
-        f = (f * key + b) % P
+        f = (f * key + rule.value(b)) % P
     return f
 
 
@@ -49,13 +72,13 @@ def tested_lengths(m):
 
 # ---- Making cards ----------------------------------------------------------
 
-def make_card(passage, key):
+def make_card(passage, key, rule=NOW):
     """The card of this passage and key."""
     # "The card holds m, r and the k + 1 fingerprints."
     prints, f, done = [], 0, 0
     for length in tested_lengths(len(passage)):
         for b in passage[done:length]:
-            f = (f * key + b) % P
+            f = (f * key + rule.value(b)) % P
         done = length
         prints.append(f)
     return Card(len(passage), key, prints)
@@ -66,23 +89,23 @@ def number(value, size=4):
     return value.to_bytes(size, "little")
 
 
-def write_card(card):
+def write_card(card, rule=NOW):
     """The record of this card."""
     # "Length (4 bytes) of what follows it, kind (2 bytes), then fields of
-    # 4 bytes. Card, kind 1: m, r, the k + 1 fingerprints."
-    body = number(CARD_KIND, 2) + number(card.m) + number(card.key)
+    # 4 bytes. Card [...]: m, r, the k + 1 fingerprints."
+    body = number(rule.card_kind, 2) + number(card.m) + number(card.key)
     body += b"".join(number(f) for f in card.prints)
     return number(len(body)) + body
 
 
-def card_record(passage, key):
+def card_record(passage, key, rule=NOW):
     """The record of the card of this passage and key."""
-    return write_card(make_card(passage, key))
+    return write_card(make_card(passage, key, rule), rule)
 
 
 # ---- Reading cards ---------------------------------------------------------
 
-def read_card(buffer):
+def read_card(buffer, rule=NOW):
     """The card at the front of the buffer and how many bytes it took."""
     # "Reading: 8, length under 2 (10), 9, length too small (10), 11, other 10."
     # (11 is no refusal of a card.)
@@ -93,13 +116,13 @@ def read_card(buffer):
         raise Refusal(SHORT)                    # or fewer than length + 4"
     if length < 2:
         raise Refusal(MISFIT)
-    if int.from_bytes(buffer[4:6], "little") != CARD_KIND:
-        raise Refusal(KIND)
+    if int.from_bytes(buffer[4:6], "little") != rule.card_kind:
+        raise Refusal(KIND)                     # A.4: "kinds 1 and 2 are refused with 9"
     if length < 10:
         raise Refusal(MISFIT)
     m, key = field(buffer, 6), field(buffer, 10)
     prints = [field(buffer, at) for at in range(14, length + 1, 4)]
-    if misfits(length, m, key, prints):
+    if misfits(length, m, key, prints, rule):
         raise Refusal(MISFIT)
     return Card(m, key, prints), length + 4
 
@@ -109,17 +132,17 @@ def field(buffer, at):
     return int.from_bytes(buffer[at:at + 4], "little")
 
 
-def misfits(length, m, key, prints):
+def misfits(length, m, key, prints, rule):
     """Whether a card of these fields is refused as a misfit."""
     # "a length that doesn't suit k; m or r outside limits; a fingerprint not
-    # below p; a first fingerprint over 255"
+    # below p"; and A.4's first fingerprint
     if not 1 <= m <= LONGEST_PASSAGE:
         return True
     if not SMALLEST_KEY <= key <= LARGEST_KEY:
         return True
     if length != 10 + 4 * len(tested_lengths(m)):
         return True
-    return any(f >= P for f in prints) or prints[0] > 255
+    return any(f >= P for f in prints) or prints[0] not in rule.first_prints
 
 
 # ---- Damaging records ------------------------------------------------------
@@ -137,14 +160,14 @@ def wrong_length(rng, record):
 
 def wrong_kind(rng, record):
     """Another kind, the rest as it was."""
-    wrong = rng.choice([0, 2, 3, 4, 256, 257, 513, 65535, rng.randrange(65536)])
+    wrong = rng.choice([0, 1, 2, PARKED_KIND, 5, 256, 259, 260, 768, 65535, rng.randrange(65536)])
     return record[:4] + number(wrong, 2) + record[6:]
 
 
 def wrong_field(rng, record):
     """One of m, r and the fingerprints becomes a number at some limit."""
     at = 6 + 4 * rng.randrange((len(record) - 6) // 4)
-    limits = [0, 1, 2, 3, 255, 256, 1048575, 1048576, 1048577, P - 1, P, P + 1,
+    limits = [0, 1, 2, 3, 255, 256, 257, 1048575, 1048576, 1048577, P - 1, P, P + 1,
               2 ** 31, 2 ** 32 - 1, field(record, at) - 1, field(record, at) + 1,
               2 * field(record, at), rng.randrange(2 ** 32)]
     return record[:at] + number(rng.choice(limits) % 2 ** 32) + record[at + 4:]

@@ -8,8 +8,8 @@ happen; document 01's M9 to M12 and case L are of that sort.
 import random
 from collections import namedtuple
 
-from card import (DAMAGES, LARGEST_KEY, LONGEST_PASSAGE, P, Card, card_record,
-                  cut_off, fingerprint, number, tested_lengths, write_card)
+from card import (CARD_KIND, DAMAGES, LARGEST_KEY, LONGEST_PASSAGE, PARKED_KIND, P, Card,
+                  card_record, cut_off, fingerprint, number, tested_lengths, write_card)
 
 # data is the whole standard input. passage, key and stream are given if the
 # card was made from that passage. pieces tells how to cut the data on the way.
@@ -316,7 +316,7 @@ def noise(rng):
     if rng.random() < 0.7:
         data = number(rng.randint(0, 100)) + data
         if rng.random() < 0.5:
-            data = data[:4] + number(1, 2) + data[6:]
+            data = data[:4] + number(CARD_KIND, 2) + data[6:]
     return Input("noise", data)
 
 
@@ -340,9 +340,17 @@ def any_input(rng):
 
 # ---- Fixed inputs ------------------------------------------------------------
 
-CASE_L = bytes.fromhex("1A000000 0100 08000000 02000000 01000000 03000000"
-                       "0F000000 FF000000 01010101010003")
+# A.4: "Case L keeps its output; its card holds 2, 6, 30, 510."
+CASE_L = bytes.fromhex("1A000000 0300 08000000 02000000 02000000 06000000"
+                       "1E000000 FE010000 01010101010003")
 CASE_L_LISTING = b"A 7 0 1 1\nE 7 16\n"
+# As document 01 has it, before A.4.
+CASE_L_BEFORE = bytes.fromhex("1A000000 0100 08000000 02000000 01000000 03000000"
+                              "0F000000 FF000000 01010101010003")
+
+# M9 to M12, each with its fingerprint under key 2. A.4: "M9 and M10 become 29, M11 and
+# M12 become 30".
+M9_TO_M12 = [([1, 1, 1, 0], 29), ([1, 1, 0, 2], 29), ([1, 1, 1, 1], 30), ([1, 1, 0, 3], 30)]
 
 
 def fixed_inputs():
@@ -354,12 +362,30 @@ def fixed_inputs():
         passage = bytes(range(1, m + 1))
         yield made("each length", passage, 2, passage + passage)
         yield made("each length", ones * m, 3, ones * (3 * m))
-    yield made("M9 to M12", [1, 1, 1, 0], 2, [1, 1, 0, 2])
-    yield made("M9 to M12", [1, 1, 0, 2], 2, [1, 1, 1, 0])
-    yield made("M9 to M12", [1, 1, 1, 1], 2, [1, 1, 0, 3])
-    yield made("M9 to M12", [1, 1, 0, 3], 2, [1, 1, 1, 1])
+    for passage, of_it in M9_TO_M12:
+        for stream, of_stream in M9_TO_M12:
+            assert fingerprint(passage, 2) == of_it
+            if of_stream == of_it and stream != passage:
+                yield made("M9 to M12", passage, 2, stream)
     yield from cards_at_limits()
     yield from short_inputs()
+
+
+def silent_inputs():
+    """Passages and streams with silent strokes, bytes of 0, which counted nothing before A.4."""
+    for key in (2, 3, 48271, LARGEST_KEY):
+        for m in SHORT_LENGTHS:
+            zeros, one = bytes(m), bytes([1])
+            yield made("silent", zeros, key, bytes(3 * m + 5))
+            yield made("silent", zeros, key, one + zeros + one + bytes(2 * m) + one)
+            yield made("silent", zeros[1:] + one, key, (zeros + one) * 3)
+            yield made("silent", one + zeros[1:], key, (one + zeros) * 3)
+    for n in range(1, 5):               # M9's phantom, and one with the loudest stroke, among silent ones
+        zeros = bytes(n)
+        yield made("silent", zeros + bytes([1, 1, 1, 0]) + zeros, 2, zeros + bytes([1, 1, 0, 2]) + bytes(9))
+        yield made("silent", zeros + bytes([1, 1, 1]) + zeros, 2, (zeros + bytes([1, 1, 0, 2]) + zeros) * 4)
+        yield made("silent", zeros + bytes([1, 253]) + zeros, 2, (zeros + bytes([0, 255]) + zeros) * 4)
+        yield made("silent", zeros + bytes([0, 255]) + zeros, 2, (zeros + bytes([1, 253]) + zeros) * 4)
 
 
 def cards_at_limits():
@@ -371,7 +397,7 @@ def cards_at_limits():
               2 ** 21, 2 ** 31, 2 ** 32 - 1):
         for prints in (len(tested_lengths(m)) + d for d in (-1, 0, 1)):
             yield Input("limits", write_card(Card(m, 2, [1] * prints)) + stream * 20)
-    for first in (0, 254, 255, 256, P - 1, P):
+    for first in (0, 1, 2, 255, 256, 257, P - 1, P):
         yield Input("limits", write_card(Card(1, 2, [first])) + stream)
     for last in (P - 1, P, 2 ** 31, 2 ** 32 - 1):
         yield Input("limits", write_card(Card(3, 2, [1, 3, last])) + stream)
@@ -383,7 +409,7 @@ def short_inputs():
         yield Input("beginnings", CASE_L[:n])
     for length in list(range(12)) + [94, 95, 2 ** 32 - 4, 2 ** 32 - 1]:
         for behind in range(0, 13):
-            for kind in (1, 2):
+            for kind in (1, 2, CARD_KIND, PARKED_KIND):
                 body = (number(kind, 2) + bytes(11))[:behind]
                 yield Input("beginnings", number(length) + body)
 

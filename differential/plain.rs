@@ -1,6 +1,7 @@
-//! The printing program of document 01 as a plain, fast ladder: the baseline
-//! for speed, and a second voice beside reference.py. No library, no checks of
-//! a stage once it is there. Build: rustc -C opt-level=3 plain.rs
+//! The printing program of document 01, with the value that request A.4 gives a
+//! byte, as a plain, fast ladder: the baseline for speed, and a second voice
+//! beside reference.py. No library, no checks of a stage once it is there.
+//! Build: rustc -C opt-level=3 plain.rs
 
 use std::io::{self, Read, Write};
 
@@ -10,6 +11,8 @@ const LONGEST_PASSAGE: u64 = 1_048_576;
 const LONGEST_CARD_RECORD: usize = 98;
 const LAST_T: u64 = 4_294_967_295;
 const BUFFER: usize = 65_536;
+/// A.4: "Cards become kind 3".
+const CARD_KIND: [u8; 2] = [3, 0];
 
 const SPENT: u64 = 6;
 const SHORT: u64 = 8;
@@ -65,7 +68,7 @@ fn read_card(buffer: &[u8]) -> Result<(Card, usize), u64> {
     if length < 2 {
         return Err(MISFIT);
     }
-    if buffer[4] != 1 || buffer[5] != 0 {
+    if buffer[4..6] != CARD_KIND {
         return Err(KIND);
     }
     if length < 10 {
@@ -82,7 +85,8 @@ fn read_card(buffer: &[u8]) -> Result<(Card, usize), u64> {
     let mut tested = Vec::new();
     for i in 0..=k {
         let print = field(buffer, 14 + 4 * i);
-        if print >= P || (i == 0 && print > 255) {
+        // A.4: "A card's first fingerprint [...] is then 1 to 256".
+        if print >= P || (i == 0 && (print < 1 || print > 256)) {
             return Err(MISFIT);
         }
         let length = if i == k { m } else { 1 << i };
@@ -208,8 +212,10 @@ impl Ladder {
     fn take(&mut self, byte: u8, out: &mut Output) {
         let k = self.stages.len();
         let before = self.f;
+        // A.4: "byte b the value b + 1".
+        let value = byte as u64 + 1;
         self.t += 1;
-        self.f = (before * self.key + byte as u64) % P;
+        self.f = (before * self.key + value) % P;
         self.total += 1;
         // "Stages are visited from k-1 down to 0. If stage i lists the start
         // t - |P_(i+1)|, it is taken off", and only its first can be that old.
@@ -231,7 +237,7 @@ impl Ladder {
             }
         }
         // "Start t-1 is compared with P_0."
-        if byte as u64 == self.tested[0].print {
+        if value == self.tested[0].print {
             self.matched(0, self.t - 1, before, out);
         }
     }

@@ -5,7 +5,7 @@ What is tried is replayed: the scripts, the generator of calls, the cases and th
 printed lines are written from the program (crates/rack_trials). What comes out is
 worked out without it, from the sentences of document 02, A.1: for each name a ladder
 with unlimited lists of its own (reference.py) and a search over the bytes; misfits of
-cards and stages by document 01's conditions (refusals.py).
+cards and stages by document 01's and A.4's conditions (refusals.py).
 
     rack_trials.py > crates/rack_trials/stdout
 """
@@ -364,9 +364,11 @@ RACK_CASES = [
     (ONE, (None, "t", LAST_T), (None, "F_t", P)),
     *[(THREE, (0, "length", m)) for m in (8, 9, 17)],
     *[(THREE, (2, "length", m)) for m in (1048576, 1048577)],
-    (THREE, (2, "key", 1)), (THREE, (2, "key", 3)), (THREE, (0, "print 0", 255)),
-    (THREE, (0, "print 0", 256)), (THREE, (0, "print 4", P - 1)), (THREE, (0, "print 4", P)),
-    (THREE, (0, "print 5", 1)), (FILLED, (15, "print 4", P)),
+    (THREE, (2, "key", 1)), (THREE, (2, "key", 3)),
+    *[(THREE, (place, "print 0", first)) for place in (0, 2) for first in (0, 1, 256, 257)],
+    (THREE, (0, "print 4", P - 1)), (THREE, (0, "print 4", P)),
+    (THREE, (0, "print 5", 1)), (FILLED, (15, "print 4", P)), (FILLED, (15, "print 0", 0)),
+    (FILLED, (15, "print 0", 1)), (ONE, (None, "t", LAST_T), (0, "print 0", 0)),
     (THREE, (0, "name", 7)), (THREE, (0, "name", 8)), (THREE, (1, "name", 300)),
     (THREE, (2, "name", 300)), (THREE, (2, "name", 0)), (FILLED, (15, "name", 0)),
     (FILLED, (15, "name", 65534)), (THREE, (0, "since", 1)), (THREE, (1, "since", 2)),
@@ -388,11 +390,14 @@ RACK_CASES = [
 # A rack, a name, and the numbers replaced in the card that is put in under it.
 CARD_CASES = [
     (EMPTY, 0, ("key", 3)), (EMPTY, 0, ("key", 1)),
-    *[(EMPTY, 0, ("length", m)) for m in (0, 1048576, 1048577)], (EMPTY, 0, ("print 0", 255)),
-    (EMPTY, 0, ("print 0", 256)), (EMPTY, 0, ("print 4", P - 1)), (EMPTY, 0, ("print 4", P)),
+    *[(EMPTY, 0, ("length", m)) for m in (0, 1048576, 1048577)],
+    *[(EMPTY, 0, ("print 0", first)) for first in (0, 1, 256, 257)],
+    (EMPTY, 0, ("print 4", P - 1)), (EMPTY, 0, ("print 4", P)),
     (EMPTY, 0, ("print 5", 1)), (EMPTY, 0), (EMPTY, 65535), (THREE, 0), (THREE, 300),
-    (THREE, 65535), (THREE, 300, ("key", 3)), (THREE, 300, ("print 0", 256)), (FILLED, 9),
-    (FILLED, 65535), (FILLED, 0), (FILLED, 9, ("key", 3)), (FILLED, 0, ("length", 0)),
+    (THREE, 65535), (THREE, 300, ("key", 3)),
+    *[(THREE, 300, ("print 0", first)) for first in (0, 1, 256, 257)], (FILLED, 9),
+    (FILLED, 65535), (FILLED, 0), (FILLED, 9, ("key", 3)), (FILLED, 9, ("print 0", 0)),
+    (FILLED, 9, ("print 0", 1)), (FILLED, 0, ("length", 0)),
     (THREE, 7), (THREE, 65534), (ONE, 300),
 ]
 BEGINNINGS = [0, 1, 2, P - 1, P, 4294967295]

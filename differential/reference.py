@@ -5,7 +5,9 @@ Each stage is a real list of all its starts, the whole history of running
 fingerprints is kept, and the sentences of "Ladder" are followed one by one.
 Nothing here stores a stage as first, last and step.
 
-    reference.py < input        a card record, then the stream to its end
+    reference.py < input                a card record, then the stream to its end
+    reference.py --before-a4 < input    the same with the value that bytes had before
+                                        request A.4; the card is of kind 1
 """
 
 import sys
@@ -14,8 +16,8 @@ from itertools import islice
 
 sys.dont_write_bytecode = True
 
-from card import (LONGEST_CARD_RECORD, P, SPENT, Refusal, fingerprint,
-                  read_card, tested_lengths)
+from card import (BEFORE_A4, LONGEST_CARD_RECORD, NOW, P, SPENT, Refusal, card_record,
+                  fingerprint, read_card, tested_lengths)
 
 LAST_T = 4294967295             # "a stream byte when t = 4294967295"
 
@@ -23,8 +25,9 @@ LAST_T = 4294967295             # "a stream byte when t = 4294967295"
 class Ladder:
     """A fresh ladder of one card: "t = 0, F_t = 0 and nothing listed"."""
 
-    def __init__(self, card):
+    def __init__(self, card, rule=NOW):
         self.card = card
+        self.rule = rule
         self.lengths = tested_lengths(card.m)
         self.k = len(self.lengths) - 1
         self.t = 0              # "t is the number of bytes taken"
@@ -40,7 +43,7 @@ class Ladder:
         if self.t == LAST_T:
             raise Refusal(SPENT)
         self.t += 1             # "At each byte, t rises by one."
-        self.F.append((self.F[-1] * self.card.key + byte) % P)
+        self.F.append((self.F[-1] * self.card.key + self.rule.value(byte)) % P)
         rung, sets = None, []
         comparisons = 1         # "which is 1 plus the starts taken off"
 
@@ -120,8 +123,8 @@ class CarefulLadder(Ladder):
     a block from its bytes, and after each byte checks what document 01 lets a
     reader of a parked watch rely on."""
 
-    def __init__(self, card):
-        super().__init__(card)
+    def __init__(self, card, rule=NOW):
+        super().__init__(card, rule)
         self.bytes = bytearray()
 
     def take(self, byte):
@@ -134,7 +137,7 @@ class CarefulLadder(Ladder):
 
     def print_of(self, start, length):
         quick = super().print_of(start, length)
-        slow = fingerprint(self.bytes[start:start + length], self.card.key)
+        slow = fingerprint(self.bytes[start:start + length], self.card.key, self.rule)
         assert quick == slow, "fp(v) from fp(uv), fp(u) and |v|"
         return slow
 
@@ -146,17 +149,17 @@ class CarefulLadder(Ladder):
         assert len(set(gaps)) <= 1 and all(d > 0 for d, _ in gaps), "gaps"
 
 
-def listing(data, ladder_class=Ladder):
+def listing(data, ladder_class=Ladder, rule=NOW):
     """The lines printed for a whole standard input, as bytes."""
     lines = []
     try:
         # "The card is judged on the first 98 bytes, the longest card record,
         # or on all the input if that is less."
-        card, taken = read_card(data[:LONGEST_CARD_RECORD])
+        card, taken = read_card(data[:LONGEST_CARD_RECORD], rule)
     except Refusal as refusal:
         # "After a refused card the last line is `E 0 0`."
         return b"X %d\nE 0 0\n" % refusal.number
-    ladder, total = ladder_class(card), 0
+    ladder, total = ladder_class(card, rule), 0
     for byte in memoryview(data)[taken:]:
         try:
             rung, sets, comparisons = ladder.take(byte)
@@ -174,5 +177,15 @@ def listing(data, ladder_class=Ladder):
     return b"".join(lines)
 
 
+def before_a4(passage, key, stream, ladder_class=Ladder):
+    """The lines that this passage, key and stream gave before A.4, the card made under the
+    old value too."""
+    # A.4: "every ring, set and count for every passage, key and stream is the same under
+    # both values"
+    return listing(card_record(passage, key, BEFORE_A4) + stream, ladder_class, BEFORE_A4)
+
+
 if __name__ == "__main__":
-    sys.stdout.buffer.write(listing(sys.stdin.buffer.read()))
+    if sys.argv[1:] not in ([], ["--before-a4"]):
+        sys.exit(__doc__)
+    sys.stdout.buffer.write(listing(sys.stdin.buffer.read(), rule=BEFORE_A4 if sys.argv[1:] else NOW))

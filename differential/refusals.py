@@ -1,5 +1,6 @@
-"""Refusals, by the sentences of document 01: what every call says of a value or a
-record; and the cases of refusals that the program refusal_trials tries.
+"""Refusals, by the sentences of document 01 and of request A.4 of document 02: what every
+call says of a value or a record; and the cases of refusals that the program refusal_trials
+tries.
 
 A value is a dict from the words of document 01 to numbers: "length", "key" and
 "print 0" to "print 20" of a card; besides them "taken" and "running print" of a
@@ -7,13 +8,12 @@ half-made card; "t", "F_t" and "stage 0 held" to "stage 19 step print" of a watc
 A case names the numbers that are replaced.
 """
 
-from card import (CARD_KIND, KIND, LARGEST_KEY, LONGEST_PASSAGE, MISFIT, P, SHORT,
-                  SMALLEST_KEY, SPENT, field, fingerprint, make_card, number,
+from card import (CARD_KIND, KIND, LARGEST_KEY, LONGEST_PASSAGE, MISFIT, P, PARKED_KIND,
+                  SHORT, SMALLEST_KEY, SPENT, field, fingerprint, make_card, number,
                   tested_lengths, write_card)
 from reference import LAST_T, Ladder, listing
 
 EMPTY, OVERLONG, KEY, UNFINISHED, SURPLUS, NO_SPACE, OTHER = 1, 2, 3, 4, 5, 7, 11
-WATCH_KIND = 2
 PRINTS, STAGES = 21, 20
 # "per stage: held, first, F_first, last, F_last, step, step print."
 FIELDS = ["held", "first", "F_first", "last", "F_last", "step", "step print"]
@@ -40,22 +40,30 @@ def prints_of(value):
 
 
 def prints_misfit(value):
-    # "a fingerprint not below p; a first fingerprint over 255"; "a print past P_k
-    # [...] that isn't all 0"
+    # "a fingerprint not below p"; "a print past P_k [...] that isn't all 0"
     prints = prints_of(value)
     past = prints[len(tested_lengths(value["length"])):]
-    return any(f >= P for f in prints) or prints[0] > 255 or any(past)
+    return any(f >= P for f in prints) or any(past)
+
+
+def first_misfits(value):
+    # A.4: "A card's first fingerprint, once reached, is then 1 to 256, and any other a
+    # misfit."
+    return not 1 <= value[print_name(0)] <= 256
 
 
 def card_misfits(value):
-    return limits_misfit(value) or prints_misfit(value)
+    return limits_misfit(value) or prints_misfit(value) or first_misfits(value)
 
 
 def half_misfits(value):
     # "A half-made card misfits when it has more than m bytes or its prints are not
     # below p, or a print not yet reached is not 0, or its running print is not 0 at
-    # 0 bytes." Besides, "the same holds for values handed in".
-    if card_misfits(value) or value["taken"] > value["length"]:
+    # 0 bytes." Besides, "the same holds for values handed in"; the first byte reaches
+    # the first fingerprint.
+    if limits_misfit(value) or prints_misfit(value) or value["taken"] > value["length"]:
+        return True
+    if value["taken"] > 0 and first_misfits(value):
         return True
     if value["running print"] >= P or value["taken"] == 0 and value["running print"] != 0:
         return True
@@ -171,7 +179,7 @@ def resume(card, buffer):
     """A parked watch's record, under a card."""
     if card_misfits(card):
         return MISFIT
-    refusal = head(buffer, WATCH_KIND, 22)
+    refusal = head(buffer, PARKED_KIND, 22)
     if refusal:
         return refusal
     # "m, r or last fingerprint differs from the card"
@@ -193,7 +201,7 @@ def resume(card, buffer):
 def plain_card(m):
     """So many ones under key 2; else an invented card of the longest passage."""
     if m > 64:
-        return make_card(b"", 2)._replace(m=LONGEST_PASSAGE, key=5, prints=[1] * PRINTS)
+        return make_card(b"", 2)._replace(m=LONGEST_PASSAGE, key=5, prints=[2] * PRINTS)
     return make_card(bytes([1]) * m, 2)
 
 
@@ -243,7 +251,7 @@ def record_of(watch):
     k = len(tested_lengths(watch["length"])) - 1
     fields = [watch["length"], watch["key"], watch[print_name(k)], watch["t"], watch["F_t"]]
     fields += [watch[stage_name(i, name)] for i in range(k) for name in FIELDS]
-    body = number(WATCH_KIND, 2) + b"".join(number(one) for one in fields)
+    body = number(PARKED_KIND, 2) + b"".join(number(one) for one in fields)
     return number(len(body)) + body
 
 
@@ -308,17 +316,18 @@ BEGINNINGS = [(0, 2), (0, 1), (1, 2), (1, 1), (1048575, 2), (1048576, 2), (10485
               (5, P - 2), (5, P - 1), (5, P), (5, P + 1), (5, 4294967295)]
 
 HALVES = [
-    (1, 0), (1, 1), (5, 0), (5, 4), (5, 5), (1048576, 0, ("taken", 1048575)),
-    (1048576, 0, ("taken", 1048576)), (1048576, 0, ("taken", 1048577)),
+    (1, 0), (1, 1), (5, 0), (5, 4), (5, 5), (1048576, 1, ("taken", 1048575)),
+    (1048576, 1, ("taken", 1048576)), (1048576, 1, ("taken", 1048577)),
     (5, 0, ("length", 0)), (5, 0, ("length", 1048576)), (5, 0, ("length", 1048577)),
     (5, 3, ("key", 0)), (5, 3, ("key", 1)), (5, 3, ("key", 2)), (5, 3, ("key", P - 1)),
     (5, 3, ("key", P)), (5, 5, ("key", 1)), (5, 5, ("key", P - 1)), (5, 3, ("length", 2)),
     (5, 3, ("length", 3)), (5, 3, ("length", 4)), (5, 5, ("taken", 6)),
     (5, 5, ("taken", 4294967295)), (5, 3, ("running print", P - 1)),
-    (5, 3, ("running print", P)), (5, 3, ("print 0", 255)), (5, 3, ("print 0", 256)),
-    (5, 3, ("print 1", P - 1)), (5, 3, ("print 1", P)), (5, 5, ("print 3", P - 1)),
+    (5, 3, ("running print", P)), (5, 0, ("print 0", 0)), (5, 0, ("print 0", 1)),
+    *[(5, taken, ("print 0", first)) for taken in (1, 3, 5) for first in (0, 1, 256, 257)],
+    (5, 0, ("taken", 1)), (5, 3, ("print 1", P - 1)), (5, 3, ("print 1", P)), (5, 5, ("print 3", P - 1)),
     (5, 5, ("print 3", P)), (5, 0, ("running print", 1)), (5, 1, ("running print", 0)),
-    (5, 0, ("print 0", 1)), (5, 3, ("print 2", 1)), (5, 4, ("print 2", 1)),
+    (5, 3, ("print 2", 1)), (5, 4, ("print 2", 1)),
     (5, 4, ("print 3", 1)), (5, 5, ("print 4", 1)), (5, 5, ("print 20", 1)),
     (5, 3, ("taken", 2)), (5, 3, ("taken", 1)),
 ]
@@ -340,8 +349,9 @@ CARDS = [
     (1048576, ("length", 524288)), (1048576, ("length", 524289)),
     (1048576, ("length", 1048577)), (1048576, ("length", 4294967295)), (5, ("key", 0)),
     (5, ("key", 1)), (5, ("key", 2)), (5, ("key", P - 2)), (5, ("key", P - 1)), (5, ("key", P)),
-    (5, ("key", 4294967295)), (1, ("print 0", 255)), (1, ("print 0", 256)),
-    (5, ("print 0", 255)), (5, ("print 0", 256)), (5, ("print 1", P - 1)), (5, ("print 1", P)),
+    (5, ("key", 4294967295)),
+    *[(m, ("print 0", first)) for m in (1, 5, 1048576) for first in (0, 1, 256, 257)],
+    (5, ("print 1", P - 1)), (5, ("print 1", P)),
     (5, ("print 3", P - 1)), (5, ("print 3", P)), (1048576, ("print 20", P - 1)),
     (1048576, ("print 20", P)), (1, ("print 1", 1)), (1, ("print 20", 1)), (5, ("print 4", 1)),
     (5, ("print 20", 1)),
@@ -384,8 +394,8 @@ FRESH = [(), (("F_t", 1),), (("t", 1),), (("t", 1), ("F_t", 1)), (("stage 0 held
 PAST = [*[(16, "stage 4 " + name) for name in FIELDS], (16, "stage 19 held"),
         (16, "stage 19 step print"), (1, "stage 0 held"), (1, "stage 19 F_last")]
 WATCH_CARDS = [("length", 0), ("length", 8), ("length", 9), ("length", 17),
-               ("length", 1048577), ("key", 1), ("key", P - 1), ("key", P), ("print 0", 256),
-               ("print 4", P), ("print 5", 1)]
+               ("length", 1048577), ("key", 1), ("key", P - 1), ("key", P), ("print 0", 0),
+               ("print 0", 1), ("print 0", 256), ("print 0", 257), ("print 4", P), ("print 5", 1)]
 # Length, stage, t, first, last.
 AGES = [
     (16, 3, 100, 84, 84), (16, 3, 100, 85, 85), (16, 3, 100, 92, 92), (16, 3, 100, 93, 93),
@@ -439,32 +449,39 @@ def watches(lines):
 
 # Length, kind, how many bytes; a byte, the number there.
 CARD_RECORDS = [
-    (26, 1, 0, 6, 5), (26, 1, 3, 6, 5), (26, 1, 4, 6, 5), (26, 1, 29, 6, 5), (26, 1, 30, 6, 5),
-    (26, 1, 31, 6, 5), (0, 1, 3, 6, 5), (26, 2, 29, 6, 0), (4294967295, 2, 600, 6, 5),
-    (4294967292, 1, 600, 6, 5),
-    (0, 1, 4, 6, 5), (0, 2, 600, 6, 5), (1, 2, 5, 6, 5), (2, 2, 6, 6, 5), (2, 1, 6, 6, 5),
-    (9, 2, 13, 6, 5), (9, 1, 13, 6, 5), (10, 1, 14, 6, 5), (10, 2, 14, 6, 5),
-    (26, 0, 600, 6, 5), (26, 2, 600, 6, 5), (26, 257, 600, 6, 5), (26, 256, 600, 6, 5),
-    (26, 2, 600, 6, 0), (27, 2, 600, 6, 5),
-    (14, 1, 600, 6, 5), (22, 1, 600, 6, 5), (25, 1, 600, 6, 5), (27, 1, 600, 6, 5),
-    (30, 1, 600, 6, 5), (26, 1, 600, 6, 4), (26, 1, 600, 6, 9),
-    (26, 1, 600, 6, 0), (26, 1, 600, 6, 1048577), (26, 1, 600, 6, 4294967295),
-    (26, 1, 600, 10, 1), (26, 1, 600, 10, P - 1), (26, 1, 600, 10, P), (26, 1, 600, 14, 255),
-    (26, 1, 600, 14, 256), (26, 1, 600, 26, P - 1), (26, 1, 600, 26, P),
+    (26, 3, 0, 6, 5), (26, 3, 3, 6, 5), (26, 3, 4, 6, 5), (26, 3, 29, 6, 5), (26, 3, 30, 6, 5),
+    (26, 3, 31, 6, 5), (0, 3, 3, 6, 5), (26, 4, 29, 6, 0), (26, 1, 29, 6, 5), (26, 2, 29, 6, 5),
+    (4294967295, 4, 600, 6, 5), (4294967292, 3, 600, 6, 5), (4294967295, 1, 600, 6, 5),
+    (0, 3, 4, 6, 5), (0, 4, 600, 6, 5), (0, 1, 600, 6, 5), (1, 4, 5, 6, 5), (1, 1, 5, 6, 5),
+    (1, 2, 5, 6, 5), (2, 4, 6, 6, 5), (2, 3, 6, 6, 5), (2, 1, 6, 6, 5), (2, 2, 6, 6, 5),
+    (9, 4, 13, 6, 5), (9, 3, 13, 6, 5), (9, 1, 13, 6, 5), (10, 3, 14, 6, 5), (10, 4, 14, 6, 5),
+    (10, 1, 14, 6, 5),
+    (26, 0, 600, 6, 5), (26, 1, 600, 6, 5), (26, 2, 600, 6, 5), (26, 4, 600, 6, 5),
+    (26, 259, 600, 6, 5), (26, 256, 600, 6, 5), (26, 768, 600, 6, 5), (26, 4, 600, 6, 0),
+    (26, 1, 600, 6, 0), (26, 1, 600, 14, 257), (27, 4, 600, 6, 5), (27, 1, 600, 6, 5),
+    (14, 3, 600, 6, 5), (22, 3, 600, 6, 5), (25, 3, 600, 6, 5), (27, 3, 600, 6, 5),
+    (30, 3, 600, 6, 5), (26, 3, 600, 6, 4), (26, 3, 600, 6, 9),
+    (26, 3, 600, 6, 0), (26, 3, 600, 6, 1048577), (26, 3, 600, 6, 4294967295),
+    (26, 3, 600, 10, 1), (26, 3, 600, 10, P - 1), (26, 3, 600, 10, P), (26, 3, 600, 14, 0),
+    (26, 3, 600, 14, 1), (26, 3, 600, 14, 256), (26, 3, 600, 14, 257), (26, 3, 600, 26, P - 1),
+    (26, 3, 600, 26, P),
 ]
 WATCH_RECORDS = [
-    (106, 2, 0, 6, 5), (106, 2, 3, 6, 5), (106, 2, 109, 6, 5), (106, 2, 110, 6, 5),
-    (106, 2, 111, 6, 5), (106, 1, 109, 6, 6), (4294967295, 1, 600, 6, 5),
-    (4294967292, 2, 600, 6, 6),
-    (0, 2, 4, 6, 5), (1, 1, 600, 6, 6), (2, 1, 600, 6, 6), (2, 2, 6, 6, 5), (21, 1, 600, 6, 6),
-    (21, 2, 25, 6, 6), (22, 2, 26, 6, 6), (22, 2, 26, 6, 5), (106, 1, 600, 6, 6),
-    (106, 258, 600, 6, 5),
-    (78, 2, 600, 6, 5), (105, 2, 600, 6, 5), (107, 2, 600, 6, 5), (134, 2, 600, 6, 5),
-    (134, 2, 600, 6, 9), (107, 2, 600, 10, 3),
-    (106, 2, 600, 6, 6), (106, 2, 600, 6, 0), (106, 2, 600, 6, 1048577), (106, 2, 600, 10, 3),
-    (106, 2, 600, 10, 0), (106, 2, 600, 14, 30), (106, 2, 600, 14, 4294967295),
+    (106, 4, 0, 6, 5), (106, 4, 3, 6, 5), (106, 4, 109, 6, 5), (106, 4, 110, 6, 5),
+    (106, 4, 111, 6, 5), (106, 3, 109, 6, 6), (106, 2, 109, 6, 5), (106, 1, 109, 6, 5),
+    (4294967295, 3, 600, 6, 5), (4294967292, 4, 600, 6, 6), (4294967295, 2, 600, 6, 5),
+    (0, 4, 4, 6, 5), (0, 2, 4, 6, 5), (1, 3, 600, 6, 6), (1, 2, 600, 6, 5), (1, 1, 600, 6, 5),
+    (2, 3, 600, 6, 6), (2, 4, 6, 6, 5), (2, 2, 6, 6, 5), (2, 1, 6, 6, 5), (21, 3, 600, 6, 6),
+    (21, 4, 25, 6, 6), (21, 2, 25, 6, 6), (22, 4, 26, 6, 6), (22, 4, 26, 6, 5),
+    (22, 2, 26, 6, 6), (106, 3, 600, 6, 6), (106, 3, 600, 6, 5), (106, 2, 600, 6, 5),
+    (106, 2, 600, 6, 6), (106, 1, 600, 6, 5), (106, 0, 600, 6, 5), (106, 260, 600, 6, 5),
+    (106, 1024, 600, 6, 5),
+    (78, 4, 600, 6, 5), (105, 4, 600, 6, 5), (105, 2, 600, 6, 5), (107, 4, 600, 6, 5),
+    (134, 4, 600, 6, 5), (134, 4, 600, 6, 9), (107, 4, 600, 10, 3),
+    (106, 4, 600, 6, 6), (106, 4, 600, 6, 0), (106, 4, 600, 6, 1048577), (106, 4, 600, 10, 3),
+    (106, 4, 600, 10, 0), (106, 4, 600, 14, 61), (106, 4, 600, 14, 4294967295),
 ]
-MISFIT_RECORDS = [(2, 7), (2, P), (3, P), (3, 7)]
+MISFIT_RECORDS = [(2, 14), (2, P), (3, P), (3, 14)]
 
 
 def replaced(record, at, new):
@@ -574,11 +591,13 @@ def last_bytes(lines, m, t):
 
 def short_streams():
     """Case L, and M10 as stream under the passage of M9."""
-    case_l = bytes.fromhex("1A 00 00 00 01 00 08 00 00 00 02 00 00 00 01 00 00 00"
-                           "03 00 00 00 0F 00 00 00 FF 00 00 00")
+    # A.4: "Case L keeps its output; its card holds 2, 6, 30, 510."
+    case_l = bytes.fromhex("1A 00 00 00 03 00 08 00 00 00 02 00 00 00 02 00 00 00"
+                           "06 00 00 00 1E 00 00 00 FE 01 00 00")
     print("case L\n" + listing(case_l + bytes([1, 1, 1, 1, 1, 0, 3])).decode(), end="")
-    m9 = write_card(make_card(bytes([1, 1, 1, 0]), 2))
-    print("M9 and M10\n" + listing(m9 + bytes([1, 1, 0, 2])).decode(), end="")
+    m9 = make_card(bytes([1, 1, 1, 0]), 2)
+    assert m9.prints[-1] == 29                  # "M9 and M10 become 29"
+    print("M9 and M10\n" + listing(write_card(m9) + bytes([1, 1, 0, 2])).decode(), end="")
 
 
 def refusals():

@@ -14,7 +14,7 @@ from collections import Counter, namedtuple
 
 sys.dont_write_bytecode = True
 
-from card import P, fingerprint, tested_lengths
+from card import P, fingerprint, tested_lengths, value
 
 # "Printed numbers are decimal without leading zeros, one space parts the
 # items, and each line ends in one line feed."
@@ -123,7 +123,7 @@ def prints_of_blocks(stream, n, key):
     yield f
     leaving = pow(key, n, P)
     for gone, come in zip(stream, stream[n:]):
-        f = (f * key + come - gone * leaving) % P
+        f = (f * key + value(come) - value(gone) * leaving) % P
         yield f
 
 

@@ -5,7 +5,7 @@ What is tried is replayed: the generator of patterns and streams, the shapes and
 lengths, the order of calls and the printed lines are written from the programs
 (crates/trials, crates/refusal_trials). What comes out is worked out without them: answers by the ladder
 with unlimited lists (reference.py), occurrences by a search over the bytes,
-refusals by document 01's conditions (refusals.py).
+refusals by the documents' conditions (refusals.py).
 
     trials.py runs cuts > crates/trials/stdout
     trials.py refusals > crates/refusal_trials/stdout
@@ -16,7 +16,7 @@ import sys
 
 sys.dont_write_bytecode = True
 
-from card import make_card, number, write_card
+from card import PARKED_KIND, make_card, number, write_card
 from reference import Ladder
 from refusals import refusals
 
@@ -239,8 +239,8 @@ def runs():
 
 def parked(ladder):
     """The record of a parked watch."""
-    # "Parked watch, kind 2: m, r, fingerprint of P_k, t, F_t, then stages 0 .. k-1,
-    # seven fields each". "held, first, F_first, last, F_last, step, step print."
+    # "Parked watch [...]: m, r, fingerprint of P_k, t, F_t, then stages 0 .. k-1, seven
+    # fields each". "held, first, F_first, last, F_last, step, step print."
     card, F = ladder.card, ladder.F
     fields = [card.m, card.key, card.prints[-1], ladder.t, F[-1]]
     for stage in ladder.stages:
@@ -253,7 +253,7 @@ def parked(ladder):
             step = stage[1] - first
             step_print = ladder.print_of(first, step)
         fields += [held, first, F[first], last, F[last], step, step_print]
-    body = number(2, 2) + b"".join(number(field) for field in fields)
+    body = number(PARKED_KIND, 2) + b"".join(number(field) for field in fields)
     return number(len(body)) + body
 
 

@@ -89,15 +89,16 @@ cases =
     ∷ beginRefusal 1 (key 2) gives 0
     ∷ beginRefusal 1 (key 2147483646) gives 0
     ∷ beginRefusal 1 (key 2147483647) gives 3
-    -- "M9 key 2, bytes 1 1 1 0 and M10 1 1 0 2: both print 14."
-    ∷ printNumber (fp (key 2) m9) gives 14
-    ∷ printNumber (fp (key 2) m10) gives 14
-    -- "With the first as passage, the second as stream rings start 0 at byte 4, a phantom": the stream is not the passage.
+    -- "M9 key 2, bytes 1 1 1 0 and M10 1 1 0 2": "M9 and M10 become 29" (document 02, A.4).
+    ∷ printNumber (fp (key 2) m9) gives 29
+    ∷ printNumber (fp (key 2) m10) gives 29
+    -- "With the first as passage, the second as stream rings start 0 at byte 4, a phantom", and "the phantom still rings": the stream is
+    -- not the passage.
     ∷ ringAt (key 2) m9 m10 4 gives suc 0
     ∷ sameBytes m10 m9 gives 0
     -- The strokes ring it too, from the fresh watch of the first one's card on.
     ∷ struckRing (fresh (signatureOf (key 2) m9)) m10 gives suc 0
-    -- "M11 key 2, 1 1 1 1 and M12 1 1 0 3: both 15."
-    ∷ printNumber (fp (key 2) m11) gives 15
-    ∷ printNumber (fp (key 2) m12) gives 15
+    -- "M11 key 2, 1 1 1 1 and M12 1 1 0 3": "M11 and M12 become 30".
+    ∷ printNumber (fp (key 2) m11) gives 30
+    ∷ printNumber (fp (key 2) m12) gives 30
     ∷ []

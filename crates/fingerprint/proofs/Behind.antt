@@ -7,7 +7,7 @@ use native.Mathlib.Omega.{arith}
 use lib.Pow.{pow-add}
 use Rattle.fingerprint.specs.declared.Key.{Key}
 use Rattle.fingerprint.specs.declared.Fingerprint.{Fingerprint}
-use Rattle.fingerprint.specs.Fingerprint.{p, Below, empty, pushed, joined, rest}
+use Rattle.fingerprint.specs.Fingerprint.{p, Below, empty, valueOf, pushed, joined, rest}
 use Rattle.fingerprint.proofs.Modular.{same-residue, mod-mul, mod-mul-add}
 
 by-value : (f g : Fingerprint) → f .value ≡ g .value → f ≡ g
@@ -51,7 +51,7 @@ module _ (key : Key) (front : Fingerprint) where
 
   pub pushed-behind :
       (a : Fingerprint) (b n : ℕ) → pushed key (joined key front a n) b ≡ joined key front (pushed key a b) (suc n)
-  pushed-behind a b n = by-value _ _ (rw pow-suc (join-both (front .value) (a .value) b (key .r ^ n) (key .r)))
+  pushed-behind a b n = by-value _ _ (rw pow-suc (join-both (front .value) (a .value) (valueOf b) (key .r ^ n) (key .r)))
 
 -- no bytes behind no bytes
 pub joined-none : (key : Key) (n : ℕ) → joined key empty empty n ≡ empty

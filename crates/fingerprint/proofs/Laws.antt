@@ -22,6 +22,7 @@ use Rattle.fingerprint.specs.Fingerprint.{
   printFits,
   same,
   empty,
+  valueOf,
   pushed,
   extended,
   fp,
@@ -112,12 +113,7 @@ fp-byte key b = by-value _ _ (ap (λ (x : ℕ). x % p) (omega arith))
 
 pub byte-is : (b : ℕ) → b < 256 → isBytePrint (bytePrint b) ≡ true
 unfolding isBytePrint
-byte-is b l = le-leb (b % p) 255 (omega arith)
-
--- A print that is not yet reached is that of no bytes, and passes for one of a byte. (Only one that is reached is that of a byte.)
-pub empty-is : isBytePrint empty ≡ true
-unfolding isBytePrint
-empty-is = refl
+byte-is b l = rw (le-leb 1 (valueOf b % p) (omega arith)) (le-leb (valueOf b % p) 256 (omega arith))
 
 pub one-byte : (key : Key) (f : Fingerprint) (b : ℕ) → rest key (pushed key f b) f 1 ≡ bytePrint b
 one-byte key f b = by-value _ _ (rw (pow-suc, pow-zero) (omega arith))
@@ -151,7 +147,7 @@ extended-joined key f [] h = by-value _ _ (simp pow-zero (omega arith))
 extended-joined key f (b ∷ v) h =
     extended-joined key (pushed key f b) v (pushed-below key f b)
     ∙ by-value _ _
-    (regroup (f .value) (key .r) b (key .r ^ length v) (fp key v .value)
+    (regroup (f .value) (key .r) (valueOf b) (key .r ^ length v) (fp key v .value)
     ∙ rw (pow-suc, extended-joined key (pushed key empty b) v (pushed-below key empty b)))
 
 -- Joining: the fingerprint of u followed by v.

@@ -1,5 +1,5 @@
--- Karp-Rabin fingerprints (document 01, "Fingerprints"). The bytes of a block are a list of numbers. What a key, a fingerprint or a power
--- holds is known to this crate alone: others use the words below and the laws of proofs/Laws.antt.
+-- Karp-Rabin fingerprints (document 01, "Fingerprints"; the value of a byte: document 02, A.4). The bytes of a block are a list of numbers.
+-- What a key, a fingerprint or a power holds is known to this crate alone: others use the words below and the laws of proofs/Laws.antt.
 use Prim.Native.Nat.{ℕ, _+_, _-_, _*_, _^_, _%_, _<_}
 use mathlib.Core.Bool.{Bool, _&&_}
 use mathlib.Core.List.{List, [], _∷_}
@@ -34,9 +34,13 @@ same f g = eqb (f .value) (g .value)
 abbrev pub empty : Fingerprint
 empty = record { value = 0 }
 
--- "One byte b more turns f into (f × r + b) mod p."
+-- "The office's planning sheets give byte b the value b + 1, so that stroke 0 isn't nothing" (document 02, A.4).
+abbrev pub valueOf : ℕ → ℕ
+valueOf b = b + 1
+
+-- "f becomes (f × r + b + 1) mod p": f with one byte b more.
 abbrev pub pushed : Key → Fingerprint → ℕ → Fingerprint
-pushed key f b = record { value = (f .value * key .r + b) % p }
+pushed key f b = record { value = (f .value * key .r + valueOf b) % p }
 
 -- The fingerprint f, taken on over more bytes.
 unfoldable pub extended : Key → Fingerprint → List ℕ → Fingerprint
@@ -47,12 +51,12 @@ extended key f (b ∷ bytes) = extended key (pushed key f b) bytes
 abbrev pub fp : Key → List ℕ → Fingerprint
 fp key bytes = extended key empty bytes
 
--- The fingerprint of the one byte b, under any key; and whether one is that of a byte: "a first fingerprint over 255" is a misfit.
+-- The fingerprint of the one byte b, under any key; and whether one is that of a byte: "1 to 256, and any other a misfit".
 abbrev pub bytePrint : ℕ → Fingerprint
-bytePrint b = record { value = b % p }
+bytePrint b = record { value = valueOf b % p }
 
 unfoldable pub isBytePrint : Fingerprint → Bool
-isBytePrint f = leb (f .value) 255
+isBytePrint f = leb 1 (f .value) && leb (f .value) 256
 
 -- Two blocks are compared by fingerprint.
 abbrev pub agreeUnder : Key → List ℕ → List ℕ → Bool

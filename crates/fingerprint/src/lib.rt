@@ -1,7 +1,8 @@
-// Karp-Rabin fingerprints of byte blocks (document 01, "Fingerprints").
+// Karp-Rabin fingerprints of byte blocks (document 01, "Fingerprints"; the value of a byte by document 02, A.4).
 ghost use mathlib.Core.Path.{_≡_};
 ghost use Rattle.fingerprint.specs.Fingerprint.{
   empty,
+  valueOf,
   pushed,
   joined,
   joinedBy,
@@ -130,6 +131,13 @@ impl Power {
     }
 }
 
+// The value of a byte: one more than its number, so that a silent stroke counts.
+fn value_of(byte: u8) -> u32
+    ensures { λ v. ⌜ v ≡ valueOf byte ⌝ }
+{
+    (byte as u32) + 1
+}
+
 impl Fingerprint {
     // The modulus p.
     pub const P: u64 = 2147483647;
@@ -145,7 +153,9 @@ impl Fingerprint {
     pub fn of_byte(byte: u8) -> Self
         ensures { λ f. ⌜ f ≡ bytePrint byte ⌝ }
     {
-        Self { value: byte as u32 }
+        Self {
+            value: value_of(byte),
+        }
     }
 
     // The fingerprint that is this number, below P or not.
@@ -166,7 +176,7 @@ impl Fingerprint {
     pub fn push(self, key: Key, byte: u8) -> Self
         ensures { λ f. ⌜ f ≡ pushed key self byte ⌝ }
     {
-        let sum = (self.value as u64) * (key.r as u64) + (byte as u64);
+        let sum = (self.value as u64) * (key.r as u64) + (value_of(byte) as u64);
         Self {
             value: (sum % Self::P) as u32,
         }
@@ -227,6 +237,9 @@ impl Fingerprint {
     pub fn is_of_byte(self) -> bool
         ensures { λ ok. ⌜ ok ≡ isBytePrint self ⌝ }
     {
-        self.value <= 255
+        if self.value < 1 {
+            return false;
+        }
+        self.value <= 256
     }
 }

@@ -57,7 +57,7 @@ module _ (m : ℕ) (key : Key) (length-ok : lengthFits m ≡ true) (key-ok : key
         below-fits _ (fp-below key bytes),
         nothing-taken key bytes,
       )
-      (prints-fit m key bytes all)
+      (prints-fit m key bytes (length-limits m length-ok .0) all)
 
   made-builder :
       (bytes : List ℕ) (b : Builder)

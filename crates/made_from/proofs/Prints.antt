@@ -1,5 +1,5 @@
 -- The table of prints: at no bytes, with one byte more, and at all m bytes; and that it is never a misfit.
-use Prim.Native.Nat.{ℕ, zero, suc, _≤_, _<_}
+use Prim.Native.Nat.{ℕ, suc, _≤_, _<_}
 use mathlib.Core.Path.{_≡_, refl, _∙_}
 use mathlib.Core.Bool.{Bool, true, false, cond, _&&_, and-true}
 use mathlib.Core.List.{List, [], _∷_, _++_}
@@ -12,12 +12,13 @@ use lib.Dec.{leb, eqb}
 use borrow.Author.Tests.{le-leb, lt-leb, eq-eqb, ne-eqb}
 use Rattle.fingerprint.specs.declared.Key.{Key}
 use Rattle.fingerprint.specs.declared.Fingerprint.{Fingerprint}
-use Rattle.fingerprint.specs.Fingerprint.{Below, empty, fp, printFits, same, isBytePrint, extended}
-use Rattle.fingerprint.proofs.Laws.{same-self, below-fits, fp-below, fp-byte, byte-is, empty-is}
+use Rattle.fingerprint.specs.Fingerprint.{Below, empty, fp, printFits, same, extended}
+use Rattle.fingerprint.proofs.Laws.{same-self, below-fits, fp-below, fp-byte, byte-is}
 use Rattle.ladder.specs.Prefix.{levels, prefixLength, prefix}
+use Rattle.ladder.proofs.Levels.{first-length}
 use Rattle.lists.specs.Lists.{tabulate}
 use Rattle.lists.proofs.Laws.{every-intro, length-tabulate, getD-tabulate, tabulated}
-use Rattle.signature.specs.Signature.{places, reached, printsFit, stored}
+use Rattle.signature.specs.Signature.{places, reached, firstFits, printsFit, stored}
 use Rattle.lists.specs.Lists.{Bytes}
 use Rattle.made_from.specs.MadeFrom.{printsOf}
 
@@ -97,7 +98,7 @@ more-prints m key bytes byte =
     (λ i l. rw (length-snoc, getD-tabulate (entry m key bytes) places i empty l)
     (one-print (leb i (levels m)) (prefixLength m i) key bytes byte))
 
--- an entry is below p, or 0 where it is not reached; and the first one is no more than a byte
+-- an entry is below p, or 0 where it is not reached
 print-fits :
     (t : Bool) (f : Fingerprint)
     → Below f
@@ -105,28 +106,25 @@ print-fits :
 print-fits true f h = below-fits f h
 print-fits false f h = same-self empty
 
--- the fingerprint of at most one byte is that byte
-one-byte : (key : Key) (n : ℕ) (bytes : List ℕ) → n ≤ 1 → Bytes bytes → isBytePrint (fp key (take n bytes)) ≡ true
-unfolding extended
-one-byte key zero bytes h all = empty-is
-one-byte key (suc zero) [] h all = empty-is
-one-byte key (suc zero) (b ∷ bytes) h all = rw (fp-byte key b) (byte-is b (all 0 (omega arith)))
-one-byte key (suc (suc n)) bytes h all = absurd (omega arith)
-
-first-fits : (t : Bool) (f : Fingerprint) → isBytePrint f ≡ true → isBytePrint (cond t f empty) ≡ true
-first-fits true f h = h
-first-fits false f h = empty-is
+-- the first byte reaches the first entry, which is then that of a byte
+first-fits : (m : ℕ) (key : Key) (bytes : List ℕ) → 1 ≤ m → Bytes bytes → firstFits (length bytes) (entry m key bytes 0) ≡ true
+first-fits m key [] long all = refl
+first-fits m key (b ∷ bytes) long all =
+    rw (
+      ne-eqb (length (b ∷ bytes)) 0 (λ e. omega arith),
+      first-length m long,
+      le-leb 0 (levels m) (omega arith),
+      le-leb 1 (length (b ∷ bytes)) (omega arith),
+      fp-byte key b,
+    )
+    (byte-is b (all 0 (omega arith)))
 
 -- the table is no misfit
 pub prints-fit :
-    (m : ℕ) (key : Key) (bytes : List ℕ) → Bytes bytes → printsFit m (length bytes) (printsOf m key bytes) ≡ true
+    (m : ℕ) (key : Key) (bytes : List ℕ) → 1 ≤ m → Bytes bytes → printsFit m (length bytes) (printsOf m key bytes) ≡ true
 unfolding printsFit printsOf
-prints-fit m key bytes all =
-    rw (
-      getD-tabulate (entry m key bytes) places 0 empty (omega arith),
-      first-fits (reached m (length bytes) 0) (fp key (take (prefixLength m 0) bytes))
-          (one-byte key (prefixLength m 0) bytes (omega arith) all),
-    )
+prints-fit m key bytes long all =
+    rw (getD-tabulate (entry m key bytes) places 0 empty (omega arith), first-fits m key bytes long all)
     (every-intro _ places
     (λ i l. rw (getD-tabulate (entry m key bytes) places i empty l)
     (print-fits (reached m (length bytes) i) (fp key (take (prefixLength m i) bytes))

@@ -66,7 +66,7 @@ module _ (key : Key) (first : Fingerprint) (input : List ℕ) (mark : Mark) wher
     unfolding skipped
     skipped-next =
         let more : n ≡ suc (n - 1) = omega arith in
-        ap (λ k. skipped key first k mark (drop at input)) more ∙ rw (drop-cons input at 0 inside, add-one)
+        ap (λ k. skipped key first k mark (drop at input)) more ∙ rw (drop-cons input at 0 inside, add-one at)
 
     pub skipped-stop : same first (bytePrint (getD input at 0)) ≡ true → skipped key first n mark (drop at input) ≡ mark
     skipped-stop e = skipped-next ∙ rw e

@@ -47,7 +47,7 @@ pub fn occurs(stream: &[u8], start: usize, block: &[u8]) -> bool
 pub fn more(print: u32, key: u32, byte: u8) -> u32
     ensures { λ r. ⌜ r ≡ printNumber (pushed (numberedKey key) (numberedPrint print) byte) ⌝ }
 {
-    let sum = (print as u64) * (key as u64) + (byte as u64);
+    let sum = (print as u64) * (key as u64) + ((byte as u64) + 1);
     (sum % MODULUS) as u32
 }
 

@@ -1,4 +1,4 @@
--- Demand 3 for each name of a rack: of the starts since its card was put in, where the card was made from a passage.
+-- Each name of a rack whose card was made from a passage: demand 3 of the starts since it was put in, and the ladder's own answers.
 -- Assumes nothing.
 use Prim.Native.Nat.{ℕ, zero, suc, _+_, _-_, _≤_, _<_}
 use mathlib.Core.Path.{_≡_, refl, sym, _∙_, ap}
@@ -11,6 +11,7 @@ use lib.ListN.{length, getD, drop, length-drop, length-map}
 use lib.Seq.{getD-drop}
 use Rattle.fingerprint.specs.declared.Key.{Key}
 use Rattle.fingerprint.specs.Fingerprint.{keyFits, agreeUnder}
+use Rattle.ladder.specs.Ladder.{answerAt}
 use Rattle.ladder.specs.Claim.{Claim}
 use Rattle.lists.specs.Lists.{Bytes}
 use Rattle.lists.proofs.Cases.{by-test}
@@ -19,7 +20,7 @@ use Rattle.matcher.specs.declared.Matcher.{Matcher}
 use Rattle.matcher.specs.declared.Answer.{Answer}
 use Rattle.matcher.specs.Matcher.{fresh}
 use Rattle.matcher.specs.Stroke.{noAnswer, strokeAnswer, afterStroke}
-use Rattle.refinement.specs.Refinement.{readAnswer}
+use Rattle.refinement.specs.Refinement.{passageTests, readAnswer}
 use Rattle.raising.specs.Raised.{raisedAnswer}
 use Rattle.rack.specs.Rack.{nameCount, rackStrokeRefusal, noReports}
 use Rattle.whole_run.specs.History as alone
@@ -27,14 +28,14 @@ use Rattle.whole_run.specs.Run as run
 use Rattle.whole_run.specs.Strokes.{strokes, struck}
 use Rattle.whole_run.proofs.Cards.{card-of}
 use Rattle.whole_run.proofs.Resuming.{fresh-accepted}
-use Rattle.whole_run.proofs.Theorem.{whole-run}
+use Rattle.whole_run.proofs.Theorem.{whole-run, ladder-answers}
 use Rattle.rack_run.specs.Calls.{Call, put-in, take-out, stroke, Possible, AllPossible}
 use Rattle.rack_run.specs.Calls.{Taken, Standing, after, begun, ran, bytesTaken, saidUnder}
 use Rattle.rack_run.specs.Ledger.{Tenant, emptyLedger, ledger, watchAfter, answersTo, Accepts}
 use Rattle.rack_run.specs.Statement.{Own}
-use Rattle.rack_run.specs.Names.{firstOf, answersUnder, ClaimSince}
+use Rattle.rack_run.specs.Names.{firstOf, answersUnder, up, ClaimSince}
 use Rattle.rack_run.proofs.Theorem.{rack-run}
-use Rattle.rack_run.proofs.Raise.{up, read-raised, claim-since}
+use Rattle.rack_run.proofs.Raise.{read-raised, claim-since}
 
 -- The strokes of bytes that a watch accepts, from where a list of its calls stands.
 all-taken :
@@ -67,16 +68,27 @@ struck-answers w [] n = refl
 struck-answers w (byte ∷ bytes) zero = refl
 struck-answers w (byte ∷ bytes) (suc n) = struck-answers (afterStroke w byte) bytes n
 
--- Demand 3 of a watch of its own.
-lone-claim :
-    (key : Key) (p : List ℕ) (card : Signature) (bytes : List ℕ)
-    → run.CardOf key p card
-    → Bytes bytes
-    → Accepts (fresh card) bytes
-    → Claim (agreeUnder key) p bytes (alone.answersOf (struck (fresh card) bytes))
-lone-claim key p card bytes c all a =
-    let r = all-taken card [] (fresh card) [] bytes all a (run.starts (fresh-accepted c)) in
-    rw (struck-bytes (fresh card) bytes) at (whole-run key p card c r)
+-- A watch of its own: demand 3, and that its answers are the ladder's.
+module _
+    (key : Key)
+    (p : List ℕ)
+    (card : Signature)
+    (bytes : List ℕ)
+    (c : run.CardOf key p card)
+    (all : Bytes bytes)
+    (a : Accepts (fresh card) bytes)
+  where
+    abbrev lone : alone.History
+    lone = struck (fresh card) bytes
+
+    lone-run : run.Run card (strokes bytes) (watchAfter (fresh card) bytes) lone
+    lone-run = all-taken card [] (fresh card) [] bytes all a (run.starts (fresh-accepted c))
+
+    lone-claim : Claim (agreeUnder key) p bytes (alone.answersOf lone)
+    lone-claim = rw (struck-bytes (fresh card) bytes) at (whole-run key p card c lone-run)
+
+    lone-ladder : (n : ℕ) → n ≤ length bytes → alone.answersOf lone n ≡ answerAt (passageTests key p) bytes n
+    lone-ladder = rw (struck-bytes (fresh card) bytes) at (ladder-answers key p card c lone-run)
 
 -- Lists that two functions take to one list, place by place.
 same-place :
@@ -124,21 +136,40 @@ module _ (name : ℕ) (x : Tenant) (s : Standing) (own : Own name x s) where
       ∙ read-raised (x .since) (getD lone-answers k noAnswer)
       ∙ ap (λ (a : Answer). up (x .since) (readAnswer a)) (sym (struck-answers (fresh (x .card)) since-bytes k)))
 
--- Demand 3 wherever a name's reports since are a watch's own.
-pub name-claim :
-    (key : Key) (p : List ℕ) (name : ℕ) (x : Tenant) (s : Standing)
-    → run.CardOf key p (x .card)
-    → Bytes (bytesTaken (s .history))
-    → Own name x s
-    → ClaimSince (agreeUnder key) p (bytesTaken (s .history)) (x .since) (answersUnder name (s .history))
-name-claim key p name x s c all own =
-    let bytes : List ℕ = bytesTaken (s .history) in
-    let inside : x .since ≤ length bytes = omega (arith, own .begun-by, length-map (s .history) (λ (t : Taken). t .byte)) in
-    claim-since (agreeUnder key) p bytes (x .since) _ (answersUnder name (s .history)) (card-of c .not-empty) inside
-    (answers-since name x s own)
-    (lone-claim key p (x .card) (drop (x .since) bytes) c
-    (λ i l. rw (getD-drop (x .since) bytes i 0) (all (x .since + i) (omega (arith, length-drop (x .since) bytes))))
-    (own .accepts))
+-- Wherever a name's reports since are a watch's own: demand 3, and the answers of the ladder over the bytes since, raised.
+module _
+    (key : Key)
+    (p : List ℕ)
+    (name : ℕ)
+    (x : Tenant)
+    (s : Standing)
+    (c : run.CardOf key p (x .card))
+    (all : Bytes (bytesTaken (s .history)))
+    (own : Own name x s)
+  where
+    abbrev bytes : List ℕ
+    bytes = bytesTaken (s .history)
+
+    bytes-since : Bytes (drop (x .since) bytes)
+    bytes-since i l = rw (getD-drop (x .since) bytes i 0) (all (x .since + i) (omega (arith, length-drop (x .since) bytes)))
+
+    pub name-claim : ClaimSince (agreeUnder key) p bytes (x .since) (answersUnder name (s .history))
+    name-claim =
+        let inside : x .since ≤ length bytes = omega (arith, own .begun-by, length-map (s .history) (λ (t : Taken). t .byte)) in
+        claim-since (agreeUnder key) p bytes (x .since) _ (answersUnder name (s .history)) (card-of c .not-empty) inside
+        (answers-since name x s own)
+        (lone-claim key p (x .card) (drop (x .since) bytes) c bytes-since (own .accepts))
+
+    pub name-ladder :
+        (n : ℕ)
+        → x .since < n
+        → n ≤ length bytes
+        → answersUnder name (s .history) n ≡ up (x .since) (answerAt (passageTests key p) (drop (x .since) bytes) (n - x .since))
+    name-ladder n l h =
+        answers-since name x s own n l h
+        ∙ ap (up (x .since))
+        (lone-ladder key p (x .card) (drop (x .since) bytes) c bytes-since (own .accepts) (n - x .since)
+        (omega (arith, length-drop (x .since) bytes)))
 
 -- The bytes that possible calls bring are bytes.
 bytes-more : (bytes : List ℕ) (byte : ℕ) → Bytes bytes → byte < 256 → Bytes (bytes ++ byte ∷ [])
@@ -165,24 +196,39 @@ unfolding ran
 bytes-ran s [] l all = all
 bytes-ran s (call ∷ calls) l all = bytes-ran (after s call) calls (l .1) (bytes-after s call (l .0) all)
 
--- Demand 3 for a name: "A card put in at count c is matched only for starts from c on", and of these starts and the bytes since c all
--- that demand 3 says of a watch holds.
-pub rack-claim :
-    (key : Key) (p : List ℕ) (calls : List Call)
-    → keyFits key ≡ true
-    → AllPossible calls
-    → (name : ℕ)
-    → name < nameCount
-    → (x : Tenant)
-    → ledger key emptyLedger calls .tenant name ≡ some x
-    → run.CardOf key p (x .card)
-    → ClaimSince
-    (agreeUnder key)
-    p
-    (bytesTaken (ran (begun key) calls .history))
-    (x .since)
-    (answersUnder name (ran (begun key) calls .history))
-rack-claim key p calls fits possible name l x e c =
-    name-claim key p name x (ran (begun key) calls) c
-    (bytes-ran (begun key) calls possible (λ i k. absurd (omega arith)))
-    (rack-run key fits calls possible .own name l x e)
+-- After every list of calls on a rack that was begun with a key within limits, of a name that is in with a card made from a passage:
+module _
+    (key : Key)
+    (p : List ℕ)
+    (calls : List Call)
+    (fits : keyFits key ≡ true)
+    (possible : AllPossible calls)
+    (name : ℕ)
+    (l : name < nameCount)
+    (x : Tenant)
+    (e : ledger key emptyLedger calls .tenant name ≡ some x)
+    (c : run.CardOf key p (x .card))
+  where
+    abbrev history : List Taken
+    history = ran (begun key) calls .history
+
+    all-bytes : Bytes (bytesTaken history)
+    all-bytes = bytes-ran (begun key) calls possible (λ i k. absurd (omega arith))
+
+    own : Own name x (ran (begun key) calls)
+    own = rack-run key fits calls possible .own name l x e
+
+    -- Demand 3 for the name: "A card put in at count c is matched only for starts from c on", and of these starts and the bytes since c all
+    -- that demand 3 says of a watch holds.
+    pub rack-claim : ClaimSince (agreeUnder key) p (bytesTaken history) (x .since) (answersUnder name history)
+    rack-claim = name-claim key p name x (ran (begun key) calls) c all-bytes own
+
+    -- The answer under the name at each byte since c is that of the ladder with unlimited lists over the passage and the bytes since c, its
+    -- starts raised by c.
+    pub rack-ladder :
+        (n : ℕ)
+        → x .since < n
+        → n ≤ length (bytesTaken history)
+        → answersUnder name history n
+        ≡ up (x .since) (answerAt (passageTests key p) (drop (x .since) (bytesTaken history)) (n - x .since))
+    rack-ladder = name-ladder key p name x (ran (begun key) calls) c all-bytes own

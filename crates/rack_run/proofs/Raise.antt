@@ -21,14 +21,7 @@ use Rattle.matcher.specs.declared.Ring.{Ring}
 use Rattle.matcher.specs.declared.Ring.the-variants.{Silent, At}
 use Rattle.raising.specs.Raised.{raisedRing, raisedSet, raisedAnswer}
 use Rattle.refinement.specs.Refinement.{readRing, readSet, readAnswer}
-use Rattle.rack_run.specs.Names.{ClaimSince}
-
--- The ladder's answer with its starts raised by c.
-abbrev upSet : ℕ → ladder.Progression → ladder.Progression
-upSet c x = record { first = c + x .first; step = x .step; many = x .many }
-
-abbrev pub up : ℕ → ladder.Answer → ladder.Answer
-up c a = record { ring = Option·map (λ s. c + s) (a .ring); aside = map (upSet c) (a .aside); comparisons = a .comparisons }
+use Rattle.rack_run.specs.Names.{upSet, up, ClaimSince}
 
 read-ring : (c : ℕ) (r : Ring) → readRing (raisedRing c r) ≡ Option·map (λ s. c + s) (readRing r)
 read-ring c Silent = refl

@@ -4,7 +4,8 @@ use Prim.Native.Nat.{ℕ, zero, suc, _+_, _≤_, _<_}
 use mathlib.Core.Path.{_≡_}
 use mathlib.Core.Logic.{_⊎_}
 use mathlib.Core.Bool.{Bool, true, false, cond}
-use mathlib.Core.List.{List, [], _∷_}
+use mathlib.Core.List.{List, [], _∷_, map}
+use mathlib.Core.Option.{Option·map}
 use lib.Dec.{eqb}
 use lib.ListN.{length, getD, take, drop}
 use Rattle.fingerprint.specs.declared.Key.{Key}
@@ -26,6 +27,13 @@ firstOf (a ∷ more) = a
 abbrev pub answersUnder : ℕ → List Taken → ℕ → ladder.Answer
 answersUnder name h zero = readAnswer noAnswer
 answersUnder name h (suc n) = readAnswer (firstOf (saidUnder name (getD h n (record { byte = 0; reports = noReports }))))
+
+-- The ladder's answer with its starts raised by c.
+abbrev pub upSet : ℕ → ladder.Progression → ladder.Progression
+upSet c x = record { first = c + x .first; step = x .step; many = x .many }
+
+abbrev pub up : ℕ → ladder.Answer → ladder.Answer
+up c a = record { ring = Option·map (λ s. c + s) (a .ring); aside = map (upSet c) (a .aside); comparisons = a .comparisons }
 
 -- Demand 3 of the bytes behind the first c of a stream: what `Claim` (ladder/specs/Claim.antt) says, of the starts from c on, in the
 -- stream's own count. `answers n` is the answer at byte number n of the stream.

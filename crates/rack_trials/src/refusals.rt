@@ -299,7 +299,7 @@ pub(crate) fn ends(tally: &mut [u32]) {
     );
 }
 
-// A card: its length, key and prints.
+// A card: its length, key and prints, of which the first is from 1 to 256.
 pub(crate) fn cards(tally: &mut [u32]) {
     cases(
         &[
@@ -310,12 +310,21 @@ pub(crate) fn cards(tally: &mut [u32]) {
             [THREE, 300, 2, LENGTH, 1048577, NONE, 0, 0],
             [THREE, 300, 2, CARD_KEY, 1, NONE, 0, 0],
             [THREE, 300, 2, CARD_KEY, 3, NONE, 0, 0],
-            [THREE, 300, 0, PRINTS, 255, NONE, 0, 0],
+            [THREE, 300, 0, PRINTS, 0, NONE, 0, 0],
+            [THREE, 300, 0, PRINTS, 1, NONE, 0, 0],
             [THREE, 300, 0, PRINTS, 256, NONE, 0, 0],
+            [THREE, 300, 0, PRINTS, 257, NONE, 0, 0],
+            [THREE, 300, 2, PRINTS, 0, NONE, 0, 0],
+            [THREE, 300, 2, PRINTS, 1, NONE, 0, 0],
+            [THREE, 300, 2, PRINTS, 256, NONE, 0, 0],
+            [THREE, 300, 2, PRINTS, 257, NONE, 0, 0],
             [THREE, 300, 0, PRINTS + 4, 2147483646, NONE, 0, 0],
             [THREE, 300, 0, PRINTS + 4, 2147483647, NONE, 0, 0],
             [THREE, 300, 0, PRINTS + 5, 1, NONE, 0, 0],
             [FULL, 300, 15, PRINTS + 4, 2147483647, NONE, 0, 0],
+            [FULL, 300, 15, PRINTS, 0, NONE, 0, 0],
+            [FULL, 300, 15, PRINTS, 1, NONE, 0, 0],
+            [ONE, 300, ITSELF, T, 4294967295, 0, PRINTS, 0],
         ],
         tally,
     );
@@ -436,8 +445,10 @@ pub(crate) fn misfits(tally: &mut [u32]) {
             [EMPTY, 0, CARD, LENGTH, 0, NONE, 0, 0],
             [EMPTY, 0, CARD, LENGTH, 1048576, NONE, 0, 0],
             [EMPTY, 0, CARD, LENGTH, 1048577, NONE, 0, 0],
-            [EMPTY, 0, CARD, PRINTS, 255, NONE, 0, 0],
+            [EMPTY, 0, CARD, PRINTS, 0, NONE, 0, 0],
+            [EMPTY, 0, CARD, PRINTS, 1, NONE, 0, 0],
             [EMPTY, 0, CARD, PRINTS, 256, NONE, 0, 0],
+            [EMPTY, 0, CARD, PRINTS, 257, NONE, 0, 0],
             [EMPTY, 0, CARD, PRINTS + 4, 2147483646, NONE, 0, 0],
             [EMPTY, 0, CARD, PRINTS + 4, 2147483647, NONE, 0, 0],
             [EMPTY, 0, CARD, PRINTS + 5, 1, NONE, 0, 0],
@@ -456,11 +467,16 @@ pub(crate) fn orders(tally: &mut [u32]) {
             [THREE, 300, NONE, 0, 0, NONE, 0, 0],
             [THREE, 65535, NONE, 0, 0, NONE, 0, 0],
             [THREE, 300, CARD, CARD_KEY, 3, NONE, 0, 0],
+            [THREE, 300, CARD, PRINTS, 0, NONE, 0, 0],
+            [THREE, 300, CARD, PRINTS, 1, NONE, 0, 0],
             [THREE, 300, CARD, PRINTS, 256, NONE, 0, 0],
+            [THREE, 300, CARD, PRINTS, 257, NONE, 0, 0],
             [FULL, 9, NONE, 0, 0, NONE, 0, 0],
             [FULL, 65535, NONE, 0, 0, NONE, 0, 0],
             [FULL, 0, NONE, 0, 0, NONE, 0, 0],
             [FULL, 9, CARD, CARD_KEY, 3, NONE, 0, 0],
+            [FULL, 9, CARD, PRINTS, 0, NONE, 0, 0],
+            [FULL, 9, CARD, PRINTS, 1, NONE, 0, 0],
             [FULL, 0, CARD, LENGTH, 0, NONE, 0, 0],
             [THREE, 7, NONE, 0, 0, NONE, 0, 0],
             [THREE, 65534, NONE, 0, 0, NONE, 0, 0],

@@ -43,12 +43,12 @@ words numbers = map word numbers
 abbrev pub recordFields : List Field → List Field
 recordFields behind = record { width = lengthWidth; value = size (widths behind) } ∷ behind
 
--- "Card, kind 1" and "parked watch, kind 2".
+-- "Cards become kind 3 and parked watches kind 4" (document 02, A.4).
 abbrev pub signatureKind : ℕ
-signatureKind = 1
+signatureKind = 3
 
 abbrev pub checkpointKind : ℕ
-checkpointKind = 2
+checkpointKind = 4
 
 -- The fields of a key and of a fingerprint, and of what holds them.
 abbrev pub keyFields : Key → List Field
@@ -78,12 +78,12 @@ printFieldsOf prints i = printFields (getD prints i empty)
 abbrev pub stageFieldsOf : Stages → ℕ → List Field
 stageFieldsOf stages i = stageFields (stageAt stages i)
 
--- What follows the length field, for k stages. "Card, kind 1: m, r, the k + 1 fingerprints."
+-- What follows the length field, for k stages. A card: "m, r, the k + 1 fingerprints".
 unfoldable pub signatureBody : ℕ → Signature → List Field
 signatureBody k s =
     kindField signatureKind ∷ word (s .length) ∷ keyFields (s .key) ++ gathered (printFieldsOf (s .prints)) (k + 1)
 
--- "Parked watch, kind 2: m, r, fingerprint of P_k, t, F_t, then stages 0 .. k-1, seven fields each in the order above."
+-- A parked watch: "m, r, fingerprint of P_k, t, F_t, then stages 0 .. k-1, seven fields each in the order above".
 unfoldable pub checkpointBody : ℕ → Matcher → List Field
 checkpointBody k w =
     kindField checkpointKind ∷ word (w .signature .length) ∷ keyFields (w .signature .key)

@@ -62,7 +62,7 @@ use stage::STAGES;
 use stage::Stage;
 
 // The kind of a checkpoint's record, and the least length field that one can have.
-pub const CHECKPOINT_KIND: u64 = 2;
+pub const CHECKPOINT_KIND: u64 = 4;
 
 pub const CHECKPOINT_LEAST: u64 = 22;
 

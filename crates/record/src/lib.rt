@@ -50,7 +50,7 @@ use crate::part::put_word;
 use crate::part::word_at;
 
 // The kind of a card's record, and the least length field that one can have.
-pub const SIGNATURE_KIND: u64 = 1;
+pub const SIGNATURE_KIND: u64 = 3;
 
 pub const SIGNATURE_LEAST: u64 = 10;
 

@@ -56,9 +56,9 @@ fn nothing() -> Matcher {
     blank(Signature::none())
 }
 
-// A card of the longest passage, whose prints are all 1.
+// A card of the longest passage, whose prints are all 2; the first is that of a byte 1.
 fn longest_card() -> Signature {
-    let print = Fingerprint::of_number(1);
+    let print = Fingerprint::of_number(2);
     Signature {
         length: 1048576,
         key: Key::new(5),
@@ -205,14 +205,22 @@ pub(crate) fn keys(tally: &mut [u32]) {
     );
 }
 
-// A first print over 255, and others not below p.
+// A first print outside 1 to 256, and others not below p.
 pub(crate) fn prints(tally: &mut [u32]) {
     cases(
         &[
-            [1, PRINTS, 255, 0],
-            [1, PRINTS, 256, 10],
-            [5, PRINTS, 255, 0],
-            [5, PRINTS, 256, 10],
+            [1, PRINTS, 0, 10],
+            [1, PRINTS, 1, 0],
+            [1, PRINTS, 256, 0],
+            [1, PRINTS, 257, 10],
+            [5, PRINTS, 0, 10],
+            [5, PRINTS, 1, 0],
+            [5, PRINTS, 256, 0],
+            [5, PRINTS, 257, 10],
+            [1048576, PRINTS, 0, 10],
+            [1048576, PRINTS, 1, 0],
+            [1048576, PRINTS, 256, 0],
+            [1048576, PRINTS, 257, 10],
             [5, PRINTS + 1, 2147483646, 0],
             [5, PRINTS + 1, 2147483647, 10],
             [5, PRINTS + 3, 2147483646, 0],

@@ -185,9 +185,9 @@ pub(crate) fn counts(tally: &mut [u32]) {
             [5, 0, NONE, 0, 0, 4],
             [5, 4, NONE, 0, 0, 4],
             [5, 5, NONE, 0, 5, 0],
-            [1048576, 0, TAKEN, 1048575, 0, 4],
-            [1048576, 0, TAKEN, 1048576, 5, 0],
-            [1048576, 0, TAKEN, 1048577, 10, 10],
+            [1048576, 1, TAKEN, 1048575, 0, 4],
+            [1048576, 1, TAKEN, 1048576, 5, 0],
+            [1048576, 1, TAKEN, 1048577, 10, 10],
         ],
         tally,
     );
@@ -217,21 +217,34 @@ pub(crate) fn limits(tally: &mut [u32]) {
     );
 }
 
-// Prints not below p, and a first print over 255; a running print at 0 bytes, and prints not yet reached or past the last.
+// Prints not below p, and a first print that is 0 before the first byte and from 1 to 256 behind it; a running print at 0 bytes, and prints
+// not yet reached or past the last.
 pub(crate) fn prints(tally: &mut [u32]) {
     cases(
         &[
             [5, 3, RUNNING, 2147483646, 0, 4],
             [5, 3, RUNNING, 2147483647, 10, 10],
-            [5, 3, PRINTS, 255, 0, 4],
-            [5, 3, PRINTS, 256, 10, 10],
+            [5, 0, PRINTS, 0, 0, 4],
+            [5, 0, PRINTS, 1, 10, 10],
+            [5, 1, PRINTS, 0, 10, 10],
+            [5, 1, PRINTS, 1, 0, 4],
+            [5, 1, PRINTS, 256, 0, 4],
+            [5, 1, PRINTS, 257, 10, 10],
+            [5, 3, PRINTS, 0, 10, 10],
+            [5, 3, PRINTS, 1, 0, 4],
+            [5, 3, PRINTS, 256, 0, 4],
+            [5, 3, PRINTS, 257, 10, 10],
+            [5, 5, PRINTS, 0, 10, 10],
+            [5, 5, PRINTS, 1, 5, 0],
+            [5, 5, PRINTS, 256, 5, 0],
+            [5, 5, PRINTS, 257, 10, 10],
+            [5, 0, TAKEN, 1, 10, 10],
             [5, 3, PRINTS + 1, 2147483646, 0, 4],
             [5, 3, PRINTS + 1, 2147483647, 10, 10],
             [5, 5, PRINTS + 3, 2147483646, 5, 0],
             [5, 5, PRINTS + 3, 2147483647, 10, 10],
             [5, 0, RUNNING, 1, 10, 10],
             [5, 1, RUNNING, 0, 0, 4],
-            [5, 0, PRINTS, 1, 10, 10],
             [5, 3, PRINTS + 2, 1, 10, 10],
             [5, 4, PRINTS + 2, 1, 0, 4],
             [5, 4, PRINTS + 3, 1, 10, 10],

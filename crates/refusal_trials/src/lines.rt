@@ -62,7 +62,7 @@ fn listing(card: Signature, stream: &[u8]) {
 // Case L: eight ones under key 2, whose card is given as a record.
 pub(crate) fn case_l(tally: &mut [u32]) {
     let read = read_signature(
-        b"\x1A\0\0\0\x01\0\x08\0\0\0\x02\0\0\0\x01\0\0\0\x03\0\0\0\x0F\0\0\0\xFF\0\0\0",
+        b"\x1A\0\0\0\x03\0\x08\0\0\0\x02\0\0\0\x02\0\0\0\x06\0\0\0\x1E\0\0\0\xFE\x01\0\0",
     );
     let verdict = read.verdict;
     expect(tally, verdict.number() == 0 && read.taken == 30);
@@ -70,11 +70,13 @@ pub(crate) fn case_l(tally: &mut [u32]) {
     listing(read.signature, &[1, 1, 1, 1, 1, 0, 3]);
 }
 
-// The pattern of M9 and the stream of M10, which rings although it differs.
+// The pattern of M9, whose print is 29, and the stream of M10, which rings although it differs.
 pub(crate) fn phantom(tally: &mut [u32]) {
     let finished = made(&[1, 1, 1, 0]);
     let verdict = finished.verdict;
-    expect(tally, verdict.number() == 0);
+    let card = finished.signature;
+    let last = card.prints[2];
+    expect(tally, verdict.number() == 0 && last.number() == 29);
     words(b"M9 and M10\n");
-    listing(finished.signature, &[1, 1, 0, 2]);
+    listing(card, &[1, 1, 0, 2]);
 }

@@ -7,7 +7,7 @@ use mathlib.Core.List.{List, [], _∷_}
 use native.Mathlib.Omega.{arith}
 use lib.Dec.{leb}
 use lib.ListN.{length, getD, take}
-use borrow.Author.Tests.{leb-true, le-leb, lt-leb}
+use borrow.Author.Tests.{leb-true, le-leb, lt-leb, ne-eqb}
 use Rattle.fingerprint.specs.declared.Key.{Key}
 use Rattle.fingerprint.specs.Fingerprint.{keyFits, printFits, same, Below, empty, isBytePrint, fp}
 use Rattle.fingerprint.proofs.Laws.{same-eq, same-self, fits-below, below-fits, fp-below, fp-byte, byte-is}
@@ -15,7 +15,7 @@ use Rattle.ladder.specs.Prefix.{levels, prefix}
 use Rattle.ladder.proofs.Levels.{levels-bound, first-length, length-within}
 use Rattle.lists.proofs.Laws.{and-left, and-right, every-at, every-intro, getD-tabulate}
 use Rattle.signature.specs.declared.Signature.{Signature}
-use Rattle.signature.specs.Signature.{maxLength, places, reached, placeFits, printsFit, signatureFits, signatureOf}
+use Rattle.signature.specs.Signature.{maxLength, places, reached, placeFits, firstFits, printsFit, signatureFits, signatureOf}
 use Rattle.lists.specs.Lists.{Bytes}
 use Rattle.lists.proofs.Cases.{by-test, each}
 
@@ -33,15 +33,16 @@ unfolding signatureFits printsFit
 sound-card s e =
     let m : ℕ = s .length in
     let q = each (leb 1 m) (leb m maxLength ∷ keyFits (s .key) ∷ printsFit m m (s .prints) ∷ []) e in
+    let long : 1 ≤ m = leb-true 1 m (q .0) in
     let short : m ≤ maxLength = leb-true m maxLength (q .1 .0) in
     let place : (i : ℕ) → i < places → placeFits m m (s .prints) i ≡ true =
-    every-at _ places (and-right (isBytePrint (getD (s .prints) 0 empty)) _ (q .1 .1 .1 .0))
+    every-at _ places (and-right (firstFits m (getD (s .prints) 0 empty)) _ (q .1 .1 .1 .0))
     in
     record {
-      long = leb-true 1 m (q .0);
+      long = long;
       short = short;
       key = q .1 .1 .0;
-      first = and-left _ _ (q .1 .1 .1 .0);
+      first = rw (ne-eqb m 0 (λ e. omega arith)) at (and-left (firstFits m (getD (s .prints) 0 empty)) _ (q .1 .1 .1 .0));
       tested =
           λ i l.
           fits-below _
@@ -87,6 +88,7 @@ module _ (key : Key) (p : List ℕ) (long : 1 ≤ length p) (short : length p �
         le-leb (length p) maxLength short,
         k,
         card-prints key p short 0 (omega arith),
+        ne-eqb (length p) 0 (λ e. omega arith),
         first,
         every-intro _ places place-fits,
       )

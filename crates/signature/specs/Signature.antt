@@ -31,12 +31,16 @@ reached m n i = leb i (levels m) && leb (prefixLength m i) n
 abbrev pub placeFits : ℕ → ℕ → List Fingerprint → ℕ → Bool
 placeFits m n prints i = cond (reached m n i) (printFits (getD prints i empty)) (same (getD prints i empty) empty)
 
--- All prints after n of m bytes; the first is not "over 255".
-unfoldable pub printsFit : ℕ → ℕ → List Fingerprint → Bool
-printsFit m n prints = isBytePrint (getD prints 0 empty) && every (placeFits m n prints) places
+-- "A card's first fingerprint, once reached, is then 1 to 256, and any other a misfit" (document 02, A.4): the first byte reaches it.
+abbrev pub firstFits : ℕ → Fingerprint → Bool
+firstFits n f = cond (eqb n 0) true (isBytePrint f)
 
--- A card is no misfit: "m or r outside limits; a fingerprint not below p; a first fingerprint over 255; .. a print past P_k .. that isn't
--- all 0". All of its m bytes were taken.
+-- All prints after n of m bytes.
+unfoldable pub printsFit : ℕ → ℕ → List Fingerprint → Bool
+printsFit m n prints = firstFits n (getD prints 0 empty) && every (placeFits m n prints) places
+
+-- A card is no misfit: "m or r outside limits; a fingerprint not below p; .. a print past P_k .. that isn't all 0"; and its first
+-- fingerprint is 1 to 256. All of its m bytes were taken.
 unfoldable pub signatureFits : Signature → Bool
 signatureFits s = lengthFits (s .length) && keyFits (s .key) && printsFit (s .length) (s .length) (s .prints)
 

@@ -5,7 +5,7 @@ ghost use lib.Dec.{leb, eqb};
 ghost use Rattle.fingerprint.specs.Fingerprint.{empty, same, printFits};
 ghost use Rattle.ladder.specs.Prefix.{levels, prefixLength};
 ghost use Rattle.refusal.specs.Number.{refusalNumber, number};
-ghost use Rattle.signature.specs.Signature.{lengthFits, reached, printsFit, signatureFits, builderFits, nothingTaken, noBuilder, noSignature, stored};
+ghost use Rattle.signature.specs.Signature.{lengthFits, reached, firstFits, printsFit, signatureFits, builderFits, nothingTaken, noBuilder, noSignature, stored};
 ghost use Rattle.signature.specs.Calls.{beginRefusal, begun, pushRefusal, afterPush, finishRefusal, finished};
 use fingerprint::Fingerprint;
 use fingerprint::Key;
@@ -130,11 +130,21 @@ fn place_fits(print: Fingerprint, reached: bool) -> bool
     }
 }
 
+// Whether a print can be the first: once the first byte reaches it, it is that of a byte.
+fn first_fits(taken: u32, print: Fingerprint) -> bool
+    ensures { λ ok. ⌜ ok ≡ firstFits taken print ⌝ }
+{
+    if 0 < taken {
+        return print.is_of_byte();
+    }
+    true
+}
+
 fn prints_fit(prints: [Fingerprint; PLACES], m: u32, taken: u32) -> bool
     ensures { λ ok. ⌜ ok ≡ printsFit m taken prints ⌝ }
 {
     let first = prints[0];
-    if !first.is_of_byte() {
+    if !first_fits(taken, first) {
         return false;
     }
     let k = levels(m);

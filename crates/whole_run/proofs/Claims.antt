@@ -42,13 +42,13 @@ module _
           ceiling = λ n l. rw (same n l) (c .ceiling n l);
         }
 
-module _ {key : Key} {p : List ℕ} {h : History} (long : 1 ≤ length p) (faithful : Faithful key p h) where
-  answers-same : (n : ℕ) → n ≤ length (bytesOf h) → answersOf h n ≡ answerAt (passageTests key p) (bytesOf h) n
+module _ {key : Key} {p : List ℕ} {h : History} (faithful : Faithful key p h) where
+  pub answers-same : (n : ℕ) → n ≤ length (bytesOf h) → answersOf h n ≡ answerAt (passageTests key p) (bytesOf h) n
   unfolding answerAt
   answers-same zero l = refl
   answers-same (suc n) l = faithful .answers (suc n) (omega arith) (omega (arith, length-bytes h))
 
-  pub faithful-claim : Claim (agreeUnder key) p (bytesOf h) (answersOf h)
-  faithful-claim =
+  pub faithful-claim : 1 ≤ length p → Claim (agreeUnder key) p (bytesOf h) (answersOf h)
+  faithful-claim long =
       claim-of (agreeUnder key) p (bytesOf h) (answersOf h) (answerAt (passageTests key p) (bytesOf h)) answers-same
       (ladder-claim (agreeUnder key) (agree-self key) p (bytesOf h) long)

@@ -1,20 +1,24 @@
 -- Demand 3 of whole lists of calls, whatever the passage, the key and the list.
 -- Assumes nothing.
 use Prim.Native.Nat.{ℕ, suc, _≤_}
+use mathlib.Core.Path.{_≡_}
 use mathlib.Core.List.{List}
+use lib.ListN.{length}
 use Rattle.fingerprint.specs.declared.Key.{Key}
 use Rattle.fingerprint.specs.Fingerprint.{agreeUnder}
 use Rattle.ladder.specs.Prefix.{levels}
+use Rattle.ladder.specs.Ladder.{answerAt}
 use Rattle.ladder.specs.Claim.{Claim}
 use Rattle.signature.specs.declared.Signature.{Signature}
 use Rattle.matcher.specs.declared.Matcher.{Matcher}
 use Rattle.matcher.specs.Stroke.{strokeAnswer}
 use Rattle.matcher.proofs.Ceiling.{ceiling}
+use Rattle.refinement.specs.Refinement.{passageTests}
 use Rattle.whole_run.specs.History.{History, bytesOf, answersOf}
 use Rattle.whole_run.specs.Run.{CardOf, Call, Run, Wrote}
 use Rattle.whole_run.proofs.Cards.{card-of}
 use Rattle.whole_run.proofs.Tracks.{run-tracks, wrote-tracks}
-use Rattle.whole_run.proofs.Claims.{faithful-claim}
+use Rattle.whole_run.proofs.Claims.{answers-same, faithful-claim}
 
 -- Demand 3: "Wherever it is cut, a passage isn't let by. Take any passage and key, and any list of strokes, parkings and resumptions,
 -- refused ones included, that starts from a fresh watch whose card was made from that passage and resumes only records parked by such
@@ -48,7 +52,7 @@ pub whole-run :
     → {calls : List Call} {w : Matcher} {h : History}
     → Run card calls w h
     → Claim (agreeUnder key) p (bytesOf h) (answersOf h)
-whole-run key p card c run = faithful-claim (card-of c .not-empty) (run-tracks c run .faithful)
+whole-run key p card c run = faithful-claim (run-tracks c run .faithful) (card-of c .not-empty)
 
 -- The claim holds with the history of each parking that wrote a record.
 pub wrote-claim :
@@ -57,7 +61,18 @@ pub wrote-claim :
     → {bytes : List ℕ} {h : History}
     → Wrote card bytes h
     → Claim (agreeUnder key) p (bytesOf h) (answersOf h)
-wrote-claim key p card c wrote = faithful-claim (card-of c .not-empty) (wrote-tracks c wrote .faithful)
+wrote-claim key p card c wrote = faithful-claim (wrote-tracks c wrote .faithful) (card-of c .not-empty)
+
+-- The history's answer at each byte is that of the ladder with unlimited lists over the passage.
+pub ladder-answers :
+    (key : Key) (p : List ℕ) (card : Signature)
+    → CardOf key p card
+    → {calls : List Call} {w : Matcher} {h : History}
+    → Run card calls w h
+    → (n : ℕ)
+    → n ≤ length (bytesOf h)
+    → answersOf h n ≡ answerAt (passageTests key p) (bytesOf h) n
+ladder-answers key p card c run = answers-same (run-tracks c run .faithful)
 
 -- "No byte, in such a list or at any other watch, has more comparisons in its answer than 1 + the number of the watch's stages."
 pub any-watch : (w : Matcher) (byte : ℕ) → strokeAnswer w byte .comparisons ≤ suc (levels (w .signature .length))

@@ -1,4 +1,4 @@
--- `naive_search::more` meets its contract: the product of two numbers of 32 bits and a byte fit 64. Assumes nothing.
+-- `naive_search::more` meets its contract: the product of two numbers of 32 bits and a byte's value fit 64. Assumes nothing.
 use native.Mathlib.Omega.{arith}
 use borrow.Author.Needs.{needs}
 use Rattle.fingerprint.proofs.Modular.{product-wide}
@@ -9,7 +9,10 @@ mul-sum : tie.Need-mul-sum
 mul-sum c = let x = c .args in omega (arith, product-wide {a = x .print} {b = x .key} (omega arith) (omega arith))
 
 add-sum : tie.Need-add-sum
-add-sum c = let x = c .args in omega (arith, product-wide {a = x .print} {b = x .key} (omega arith) (omega arith))
+add-sum c = search needs
+
+add-sum-2 : tie.Need-add-sum-2
+add-sum-2 c = let x = c .args in omega (arith, product-wide {a = x .print} {b = x .key} (omega arith) (omega arith))
 
 cast-result : tie.Need-cast-result
 cast-result c = search needs
@@ -18,4 +21,4 @@ returns : tie.Need-returns
 returns c = search needs
 
 pub more-spec : {M : Type 1} → statement M
-more-spec = tie.close (tie.spec mul-sum add-sum cast-result returns)
+more-spec = tie.close (tie.spec mul-sum add-sum add-sum-2 cast-result returns)

@@ -20,12 +20,12 @@ abbrev μ-loop : tie.MeasureT-loop
 array-copy-out-first : tie.Need-array-copy-out-first Inv-loop μ-loop
 array-copy-out-first c = search needs
 
-is-of-byte-requires : tie.Need-is-of-byte-requires Inv-loop μ-loop
-is-of-byte-requires c κs = search needs
+first-fits-requires : tie.Need-first-fits-requires Inv-loop μ-loop
+first-fits-requires c κs = search needs
 
 returns : tie.Need-returns Inv-loop μ-loop
 unfolding printsFit
-returns c = rw (← c .before .is-of-byte .ensures, not-true (c .before .is-of-byte .result) (c .if1 .taken))
+returns c = rw (← c .before .first-fits .ensures, not-true (c .before .first-fits .result) (c .if1 .taken))
 
 levels-requires : tie.Need-levels-requires Inv-loop μ-loop
 levels-requires c κs = search needs
@@ -59,8 +59,8 @@ returns-2 c =
     in
     let start = c .before .before .before .before .before .before .before in
     rw (
-      ← start .before .is-of-byte .ensures,
-      not-false (start .before .is-of-byte .result) (start .if1 .left),
+      ← start .before .first-fits .ensures,
+      not-false (start .before .first-fits .result) (start .if1 .left),
       every-fails (placeFits (a .m) (a .taken) (a .t1)) 21 i (c .before .before .before .before .loop-test .taken) fails,
     )
 
@@ -85,8 +85,8 @@ returns-3 c =
     let end : c .before .loop .i ≡ 21 = omega arith in
     let start = c .before .before .before in
     rw (
-      ← start .before .is-of-byte .ensures,
-      not-false (start .before .is-of-byte .result) (start .if1 .left),
+      ← start .before .first-fits .ensures,
+      not-false (start .before .first-fits .result) (start .if1 .left),
     )
     (sym (rw end at (c .before .loop .inv .1)))
 
@@ -97,7 +97,7 @@ prints-fit-spec =
     Inv-loop
     μ-loop
     array-copy-out-first
-    is-of-byte-requires
+    first-fits-requires
     returns
     levels-requires
     loop-holds

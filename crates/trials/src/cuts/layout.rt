@@ -72,13 +72,13 @@ fn put_stages(buffer: &mut [u8], at: usize, stages: [Stage; 20], k: usize) {
     }
 }
 
-// A parked watch, from a place on: kind 2, m, r, the fingerprint of P_k, t, F_t, then the stages.
+// A parked watch, from a place on: kind 4, m, r, the fingerprint of P_k, t, F_t, then the stages.
 pub(crate) fn put_watch(buffer: &mut [u8], at: usize, w: Matcher) {
     let signature = w.signature;
     let prints = signature.prints;
     let listed = w.stages;
     let k = stages(signature.length as usize) as usize;
-    put_head(buffer, at, record_size(signature.length), 2, signature);
+    put_head(buffer, at, record_size(signature.length), 4, signature);
     put_number(buffer, plus(at, 14), number_of(prints, k));
     put_mark(buffer, plus(at, 18), w.now);
     put_stages(buffer, plus(at, 26), listed, k);
@@ -91,11 +91,11 @@ fn put_print_of(buffer: &mut [u8], prints: [Fingerprint; 21], i: usize, k: usize
     }
 }
 
-// A card, in the front: kind 1, m, r, the fingerprints of P_0 .. P_k.
+// A card, in the front: kind 3, m, r, the fingerprints of P_0 .. P_k.
 pub(crate) fn put_card(buffer: &mut [u8], signature: Signature) {
     let prints = signature.prints;
     let k = stages(signature.length as usize) as usize;
-    put_head(buffer, 0, card_size(signature.length), 1, signature);
+    put_head(buffer, 0, card_size(signature.length), 3, signature);
     let mut i: usize = 0;
     while i < 21 {
         put_print_of(buffer, prints, i, k);

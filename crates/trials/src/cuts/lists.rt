@@ -202,7 +202,7 @@ fn park_short(walk: Walk, tally: &mut [u32]) -> Walk {
 // an F_t not below p.
 const PLACES: [usize; 4] = [3, 4, 9, 25];
 
-const VALUES: [u8; 4] = [255, 3, 3, 255];
+const VALUES: [u8; 4] = [255, 2, 3, 255];
 
 const DUE: [u32; 4] = [8, 9, 11, 10];
 
