@@ -29,7 +29,7 @@ use Rattle.matcher.specs.declared.Round.{Round}
 use Rattle.matcher.specs.Matcher.{matcherFits, moved}
 use Rattle.matcher.specs.Stroke.{noAnswer, compared, nextMark, matches, tried, ripe, descended, walkedFrom, walked, strokeRefusal, strokeAnswer, afterStroke}
 use Rattle.matcher.specs.Scan.{Scanned, onward, scanned}
-use Rattle.matcher.specs.Skip.{skipped, Unripe}
+use Rattle.matcher.specs.Skip.{isFirst, skipped, Unripe}
 use Rattle.matcher.proofs.StrokeFits.{stroke-fits}
 use Rattle.matcher.proofs.Visits.{visit-unripe}
 
@@ -61,18 +61,18 @@ module _ (key : Key) (first : Fingerprint) (input : List ℕ) (mark : Mark) wher
   module _ (n at : ℕ) (some : 0 < n) (inside : at < length input) where
     skipped-next :
         skipped key first n mark (drop at input)
-        ≡ cond (same first (bytePrint (getD input at 0))) mark
+        ≡ cond (isFirst first (getD input at 0)) mark
         (skipped key first (n - 1) (nextMark key mark (getD input at 0)) (drop (at + 1) input))
     unfolding skipped
     skipped-next =
         let more : n ≡ suc (n - 1) = omega arith in
         ap (λ k. skipped key first k mark (drop at input)) more ∙ rw (drop-cons input at 0 inside, add-one at)
 
-    pub skipped-stop : same first (bytePrint (getD input at 0)) ≡ true → skipped key first n mark (drop at input) ≡ mark
+    pub skipped-stop : isFirst first (getD input at 0) ≡ true → skipped key first n mark (drop at input) ≡ mark
     skipped-stop e = skipped-next ∙ rw e
 
     pub skipped-step :
-        same first (bytePrint (getD input at 0)) ≡ false
+        isFirst first (getD input at 0) ≡ false
         → skipped key first n mark (drop at input)
         ≡ skipped key first (n - 1) (nextMark key mark (getD input at 0)) (drop (at + 1) input)
     skipped-step e = skipped-next ∙ rw e
@@ -106,7 +106,7 @@ pub record Skips (w : Matcher) (n : ℕ) (bytes : List ℕ) (now : Mark) : Type 
 
 -- The byte b, at which no start is ripe, and which is not P_0.
 module _ (w : Matcher) (b : ℕ) (fits : matcherFits w ≡ true) (room : w .now .at < maxTaken) (unripe : Calm w (suc (w .now .at)))
-    (other : same (getD (w .signature .prints) 0 empty) (bytePrint b) ≡ false) where
+    (other : isFirst (getD (w .signature .prints) 0 empty) b ≡ false) where
   abbrev next : Mark
   next = nextMark (w .signature .key) (w .now) b
 
@@ -203,7 +203,7 @@ SkipsAll n bytes =
 skips-more : (n b : ℕ) (bytes : List ℕ) → SkipsAll n bytes → SkipsAll (suc n) (b ∷ bytes)
 unfolding skipped
 skips-more n b bytes more w fits room unripe =
-    by-test (same (first w) (bytePrint b))
+    by-test (isFirst (first w) b)
     (λ e. rw e (no-skips w (suc n) (b ∷ bytes) fits))
     (λ e.
     let t : ℕ = w .now .at in

@@ -8,7 +8,7 @@ use lib.Dec.{leb, eqb}
 use lib.ListN.{getD}
 use borrow.Author.Tests.{lt-ltb, le-ltb}
 use Rattle.fingerprint.specs.declared.Key.{Key}
-use Rattle.fingerprint.specs.Fingerprint.{sameKey, same, empty, bytePrint}
+use Rattle.fingerprint.specs.Fingerprint.{sameKey, empty}
 use Rattle.fingerprint.proofs.Laws.{same-key-eq}
 use Rattle.lists.proofs.Cases.{Each, each}
 use Rattle.refusal.specs.Number.{number}
@@ -19,6 +19,7 @@ use Rattle.matcher.specs.declared.Turn.{Turn}
 use Rattle.matcher.specs.declared.Powers.{Powers}
 use Rattle.matcher.specs.Matcher.{matcherFits}
 use Rattle.matcher.specs.Stroke.{noAnswer, compared, walked, strokeRefusal, strokeAnswer, afterStroke}
+use Rattle.matcher.specs.Skip.{isFirst}
 use Rattle.matcher.specs.Shared.{powersOf, sharedFits, sharedRefusal, sharedAnswer, sharedStages}
 use Rattle.matcher.proofs.Sound.{after-taken, answer-taken}
 use Rattle.matcher.proofs.Quiet.{Calm, quiet-answer, quiet-after}
@@ -103,7 +104,7 @@ module _ (key : Key) (since : ℕ) (w : Matcher) where
 
       pub brings-quiet :
           Calm w (suc (w .now .at))
-          → same (getD (w .signature .prints) 0 empty) (bytePrint byte) ≡ false
+          → isFirst (getD (w .signature .prints) 0 empty) byte ≡ false
           → r .stages ≡ w .stages
           → r .answer ≡ compared noAnswer
           → Brings key since w byte r

@@ -8,11 +8,10 @@ use native.Mathlib.Omega.{arith}
 use lib.ListN.{length, drop, getD}
 use Rattle.fingerprint.specs.declared.Key.{Key}
 use Rattle.fingerprint.specs.declared.Fingerprint.{Fingerprint}
-use Rattle.fingerprint.specs.Fingerprint.{same, bytePrint}
 use Rattle.stage.specs.declared.Mark.{Mark}
 use Rattle.stage.specs.Stage.{maxTaken}
 use Rattle.matcher.specs.Stroke.{nextMark}
-use Rattle.matcher.specs.Skip.{skipped}
+use Rattle.matcher.specs.Skip.{isFirst, skipped}
 use Rattle.matcher.proofs.Quiet.{skipped-none, skipped-stop, skipped-step}
 
 -- where passing over all of the bytes leads
@@ -58,11 +57,11 @@ module _ {key : Key} {first : Fingerprint} {until : ℕ} {input : List ℕ} {fro
     pub fewer : end - (at + 1) < end - at
     fewer = omega arith
 
-    pub skipping-stop : same first (bytePrint (getD input at 0)) ≡ true → mark ≡ passedAll key first until input from start
+    pub skipping-stop : isFirst first (getD input at 0) ≡ true → mark ≡ passedAll key first until input from start
     skipping-stop e = sym (skipped-stop key first input mark (end - at) at (omega arith) byte-inside e) ∙ q .leads
 
     pub skipping-step :
-        same first (bytePrint (getD input at 0)) ≡ false
+        isFirst first (getD input at 0) ≡ false
         → (next : Mark)
         → next ≡ nextMark key mark (getD input at 0)
         → Skipping key first until input from start end (at + 1) next

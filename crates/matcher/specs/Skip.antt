@@ -2,7 +2,7 @@
 -- are passed over together.
 use Prim.Native.Nat.{ℕ, zero, suc, _+_, _≤_, _<_}
 use mathlib.Core.Path.{_≡_}
-use mathlib.Core.Bool.{cond}
+use mathlib.Core.Bool.{Bool, cond}
 use mathlib.Core.List.{List, [], _∷_}
 use lib.ListN.{getD}
 use Rattle.fingerprint.specs.declared.Key.{Key}
@@ -23,12 +23,16 @@ use Rattle.matcher.specs.Scan.{Scanned}
 abbrev pub Shifts : Key → ℕ → List Power → Type 0
 Shifts key m shifts = (i : ℕ) → i ≤ levels m → getD shifts i noPower ≡ power key (prefixLength m i)
 
--- t and F_t behind the bytes passed over: at most n of them, and none from the first byte on that has the fingerprint given.
+-- Whether a byte is P_0, whose fingerprint is given.
+abbrev pub isFirst : Fingerprint → ℕ → Bool
+isFirst first byte = same first (bytePrint byte)
+
+-- t and F_t behind the bytes passed over: at most n of them, and none from the first byte on that is P_0.
 unfoldable pub skipped : Key → Fingerprint → ℕ → Mark → List ℕ → Mark
 skipped key first zero now bytes = now
 skipped key first (suc n) now [] = now
 skipped key first (suc n) now (byte ∷ bytes) =
-    cond (same first (bytePrint byte)) now (skipped key first n (nextMark key now byte) bytes)
+    cond (isFirst first byte) now (skipped key first n (nextMark key now byte) bytes)
 
 -- No start of the stages below k becomes ripe up to t.
 abbrev pub Unripe : ℕ → ℕ → ℕ → Stages → Type 0

@@ -2,7 +2,7 @@
 -- Assumes nothing.
 use Prim.Native.Nat.{ℕ, _+_, _-_, _≤_, _<_}
 use mathlib.Core.Path.{_≡_, refl, sym, _∙_, ap}
-use mathlib.Core.Bool.{true}
+use mathlib.Core.Bool.{Bool, true}
 use mathlib.Core.List.{List}
 use mathlib.Core.Option.{some}
 use native.Mathlib.Omega.{arith}
@@ -60,37 +60,35 @@ module _ (key : Key) (p stream : List ℕ) where
 
   -- A block collides with a tested beginning under one value just where it does under the other: demand 3's exceptions are neither more nor
   -- fewer.
-  pub collision-now :
-      (c : Collision (agreedUnder key) p stream)
-      → (d : Collision (agreeUnder key) p stream) × (d .start ≡ c .start) × (d .index ≡ c .index)
-  collision-now c = (
+  carried :
+      (f g : List ℕ → List ℕ → Bool)
+      → ((i s : ℕ)
+      → s + prefixLength (length p) i ≤ length stream
+      → f (block stream s (prefixLength (length p) i)) (prefix p i) ≡ g (block stream s (prefixLength (length p) i)) (prefix p i))
+      → (c : Collision f p stream)
+      → (d : Collision g p stream) × (d .start ≡ c .start) × (d .index ≡ c .index)
+  carried f g same c = (
     record {
       start = c .start;
       index = c .index;
       tested = c .tested;
       inside = c .inside;
       differs = c .differs;
-      agrees = sym (by-beginning (c .index) (c .start) (c .inside)) ∙ c .agrees;
+      agrees = sym (same (c .index) (c .start) (c .inside)) ∙ c .agrees;
     },
     refl,
     refl,
   )
 
+  pub collision-now :
+      (c : Collision (agreedUnder key) p stream)
+      → (d : Collision (agreeUnder key) p stream) × (d .start ≡ c .start) × (d .index ≡ c .index)
+  collision-now = carried (agreedUnder key) (agreeUnder key) by-beginning
+
   pub collision-before :
-      (d : Collision (agreeUnder key) p stream)
-      → (c : Collision (agreedUnder key) p stream) × (c .start ≡ d .start) × (c .index ≡ d .index)
-  collision-before d = (
-    record {
-      start = d .start;
-      index = d .index;
-      tested = d .tested;
-      inside = d .inside;
-      differs = d .differs;
-      agrees = by-beginning (d .index) (d .start) (d .inside) ∙ d .agrees;
-    },
-    refl,
-    refl,
-  )
+      (c : Collision (agreeUnder key) p stream)
+      → (d : Collision (agreedUnder key) p stream) × (d .start ≡ c .start) × (d .index ≡ c .index)
+  collision-before = carried (agreeUnder key) (agreedUnder key) (λ i s l. sym (by-beginning i s l))
 
 -- So a watch whose card was made from a passage, anywhere in a list of strokes, parkings and resumptions, has answered each byte of its
 -- history as the ladder under the old value does.
@@ -106,24 +104,25 @@ watch-as-before key p card c {h} run n l = ladder-answers key p card c run n l �
 
 -- And so has a rack, whatever list of calls was made on it, for each name that is in with such a card: at each byte since its count, as the
 -- ladder under the old value does over the bytes since, its starts raised by that count.
-pub name-as-before :
-    (key : Key) (p : List ℕ) (calls : List rack.Call)
-    → keyFits key ≡ true
-    → rack.AllPossible calls
-    → (name : ℕ)
-    → name < nameCount
-    → (x : Tenant)
-    → ledger key emptyLedger calls .tenant name ≡ some x
-    → CardOf key p (x .card)
-    → (n : ℕ)
-    → x .since < n
-    → n ≤ length (rack.bytesTaken (rack.ran (rack.begun key) calls .history))
-    → answersUnder name (rack.ran (rack.begun key) calls .history) n
-    ≡ up (x .since)
-    (answerAt (testsOf (agreedUnder key) p) (drop (x .since) (rack.bytesTaken (rack.ran (rack.begun key) calls .history))) (n - x .since))
-name-as-before key p calls fits possible name l x e c n later within =
-    let since : List ℕ = drop (x .since) (rack.bytesTaken (rack.ran (rack.begun key) calls .history)) in
-    rack-ladder key p calls fits possible name l x e c n later within
-    ∙ ap (up (x .since))
-    (sym (same-answer key p since (n - x .since)
-    (omega (arith, length-drop (x .since) (rack.bytesTaken (rack.ran (rack.begun key) calls .history))))))
+module _ (key : Key) (p : List ℕ) (calls : List rack.Call) where
+  abbrev history : List rack.Taken
+  history = rack.ran (rack.begun key) calls .history
+
+  pub name-as-before :
+      keyFits key ≡ true
+      → rack.AllPossible calls
+      → (name : ℕ)
+      → name < nameCount
+      → (x : Tenant)
+      → ledger key emptyLedger calls .tenant name ≡ some x
+      → CardOf key p (x .card)
+      → (n : ℕ)
+      → x .since < n
+      → n ≤ length (rack.bytesTaken history)
+      → answersUnder name history n
+      ≡ up (x .since) (answerAt (testsOf (agreedUnder key) p) (drop (x .since) (rack.bytesTaken history)) (n - x .since))
+  name-as-before fits possible name l x e c n later within =
+      rack-ladder key p calls fits possible name l x e c n later within
+      ∙ ap (up (x .since))
+      (sym (same-answer key p (drop (x .since) (rack.bytesTaken history)) (n - x .since)
+      (omega (arith, length-drop (x .since) (rack.bytesTaken history)))))
