@@ -11,7 +11,8 @@ SMALLEST_KEY = 2                # "The key r is from 2 to 2147483646."
 LARGEST_KEY = 2147483646
 LONGEST_PASSAGE = 1048576       # "A passage has m bytes, 1 to 1048576."
 LONGEST_CARD_RECORD = 98        # "the first 98 bytes, the longest card record"
-CARD_KIND, PARKED_KIND = 3, 4   # A.4: "Cards become kind 3 and parked watches kind 4"
+CARD_KIND = 3                   # A.4: "Cards become kind 3 and parked watches kind 4"
+PARKED_KINDS = (4, 5)           # and A.5: "The wide parked record is kind 5"
 
 SHORT, KIND, MISFIT, SPENT = 8, 9, 10, 6
 
@@ -127,9 +128,9 @@ def read_card(buffer, rule=NOW):
     return Card(m, key, prints), length + 4
 
 
-def field(buffer, at):
-    """The field of 4 bytes that stands at this place."""
-    return int.from_bytes(buffer[at:at + 4], "little")
+def field(buffer, at, size=4):
+    """The field of so many bytes that stands at this place."""
+    return int.from_bytes(buffer[at:at + size], "little")
 
 
 def misfits(length, m, key, prints, rule):
@@ -160,7 +161,7 @@ def wrong_length(rng, record):
 
 def wrong_kind(rng, record):
     """Another kind, the rest as it was."""
-    wrong = rng.choice([0, 1, 2, PARKED_KIND, 5, 256, 259, 260, 768, 65535, rng.randrange(65536)])
+    wrong = rng.choice([0, 1, 2, *PARKED_KINDS, 256, 259, 260, 768, 65535, rng.randrange(65536)])
     return record[:4] + number(wrong, 2) + record[6:]
 
 

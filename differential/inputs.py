@@ -8,7 +8,7 @@ happen; document 01's M9 to M12 and case L are of that sort.
 import random
 from collections import namedtuple
 
-from card import (CARD_KIND, DAMAGES, LARGEST_KEY, LONGEST_PASSAGE, PARKED_KIND, P, Card,
+from card import (CARD_KIND, DAMAGES, LARGEST_KEY, LONGEST_PASSAGE, PARKED_KINDS, P, Card,
                   card_record, cut_off, fingerprint, number, tested_lengths, write_card)
 
 # data is the whole standard input. passage, key and stream are given if the
@@ -409,7 +409,7 @@ def short_inputs():
         yield Input("beginnings", CASE_L[:n])
     for length in list(range(12)) + [94, 95, 2 ** 32 - 4, 2 ** 32 - 1]:
         for behind in range(0, 13):
-            for kind in (1, 2, CARD_KIND, PARKED_KIND):
+            for kind in (1, 2, CARD_KIND, *PARKED_KINDS):
                 body = (number(kind, 2) + bytes(11))[:behind]
                 yield Input("beginnings", number(length) + body)
 

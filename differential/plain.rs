@@ -9,7 +9,8 @@ const P: u64 = 2_147_483_647;
 const LARGEST_KEY: u64 = 2_147_483_646;
 const LONGEST_PASSAGE: u64 = 1_048_576;
 const LONGEST_CARD_RECORD: usize = 98;
-const LAST_T: u64 = 4_294_967_295;
+/// A.5: "the stream run to 1099511627775 bytes".
+const LAST_T: u64 = 1_099_511_627_775;
 const BUFFER: usize = 65_536;
 /// A.4: "Cards become kind 3".
 const CARD_KIND: [u8; 2] = [3, 0];

@@ -5,7 +5,7 @@ What is tried is replayed: the scripts, the generator of calls, the cases and th
 printed lines are written from the program (crates/rack_trials). What comes out is
 worked out without it, from the sentences of document 02, A.1: for each name a ladder
 with unlimited lists of its own (reference.py) and a search over the bytes; misfits of
-cards and stages by document 01's and A.4's conditions (refusals.py).
+cards and stages by document 01's, A.4's and A.5's conditions (refusals.py).
 
     rack_trials.py > crates/rack_trials/stdout
 """
@@ -16,8 +16,8 @@ sys.dont_write_bytecode = True
 
 from card import LARGEST_KEY, MISFIT, P, SMALLEST_KEY, SPENT, make_card
 from reference import LAST_T, Ladder
-from refusals import (FIELDS, KEY, PRINTS, STAGES, card_misfits, first_of, print_name,
-                      stage_name, stored, watch_misfits)
+from refusals import (FIELDS, KEY, PAST_NARROW, PRINTS, STAGES, TOP, card_misfits, first_of,
+                      late_ladder, print_name, stage_name, stored, watch_misfits)
 from trials import below, following, mixed, starts
 
 # "Checks: 12 for putting a card in when 16 are in, 13 when a name put in is already
@@ -113,9 +113,11 @@ class Name:
 
 
 class Line:
-    def __init__(self, key, loud, tally):
+    """A rack that has come to t, where none of its cards is in."""
+
+    def __init__(self, key, t, loud, tally):
         self.key, self.loud, self.tally = key, loud, tally
-        self.t, self.names = 0, {}
+        self.t, self.names = t, {}
         tally.meet(0)
 
     def say(self, words):
@@ -126,16 +128,24 @@ class Line:
         # "10 comes first, then 13 before 12." "A card with another key is a misfit"
         refusal = self.tally.meet(first_of((not own_key, MISFIT), (name in self.names, TAKEN),
                                            (len(self.names) == CARDS, FULL)))
-        self.say("put in %d at %d: %d" % (name, self.t, refusal))
         if not refusal:
             self.names[name] = Name(passage, self.key, self.t)
+        self.say("put in %d at %d: %d, since %d" % (name, self.t, refusal, self.since(name)))
 
     def take_out(self, name):
         refusal = self.tally.meet(0 if name in self.names else ABSENT)
-        self.say("take out %d at %d: %d" % (name, self.t, refusal))
         self.names.pop(name, None)
+        self.say("take out %d at %d: %d, since %d" % (name, self.t, refusal, self.since(name)))
+
+    def since(self, name):
+        """The count since which a name is in, 0 where it is absent."""
+        # "A card put in at count c"
+        return self.names[name].c if name in self.names else 0
 
     def strike(self, byte):
+        if self.t == LAST_T:                    # A.5: "Refusal 6 moves to the new limit"
+            self.say("stroke at %d: %d" % (self.t, self.tally.meet(SPENT)))
+            return
         self.t += 1
         self.tally.meet(0)
         # "Reports at one byte go by rising name."
@@ -178,10 +188,16 @@ SCRIPTS = [
 ]
 
 
-def play(script, key, loud, tally):
+# From each of these t on; the last script up to the last t.
+LATE_SCRIPTS = [SCRIPTS[1], SCRIPTS[3], SCRIPTS[7], SCRIPTS[9]]
+LATE_FROM = [PAST_NARROW - 8, PAST_NARROW, LAST_T - 25]
+SPENT_SCRIPT = ("the count spent", "+Aa+Bc11111111111111+Db-A10-B-C", LAST_T - 12)
+
+
+def play(script, key, t, loud, tally):
     """+Ab puts in passage b under name A, *Ab does so with another key, -A takes it out,
     and a digit is a byte."""
-    line, i = Line(key, loud, tally), 0
+    line, i = Line(key, t, loud, tally), 0
     while i < len(script):
         call = script[i]
         if call.isdigit():
@@ -192,14 +208,15 @@ def play(script, key, loud, tally):
             line.put_in(NAMES[ord(script[i + 1]) - ord("A")],
                         PASSAGES[ord(script[i + 2]) - ord("a")], call == "+")
         i += 1
-    assert line.t <= STREAM
+    assert line.t - t <= STREAM
 
 
 def scripts(every):
-    for title, script in SCRIPTS:
-        print(title)
+    late = [(title, script, t) for t in LATE_FROM for title, script in LATE_SCRIPTS]
+    for title, script, t in [(*one, 0) for one in SCRIPTS] + late + [SPENT_SCRIPT]:
+        print(title + (", from %d" % t if t else ""))
         tally = Tally()
-        play(script, 2, True, tally)
+        play(script, 2, t, True, tally)
         tally.say()
         every.gather(tally)
 
@@ -252,11 +269,11 @@ class Draw:
 
 
 def runs(every):
-    for key in KEYS:
+    for key, t in [(key, 0) for key in KEYS] + [(2, PAST_NARROW - 100)]:
         tally = Tally()
         for cards in range(RUNS):
-            play(Draw(cards, key).script, key, False, tally)
-        tally.say("%d runs under key %d: " % (RUNS, key))
+            play(Draw(cards, key).script, key, t, False, tally)
+        tally.say("%d runs under key %d from %d: " % (RUNS, key, t))
         every.gather(tally)
 
 
@@ -288,7 +305,8 @@ def place_misfits(place, rack):
 
 def rack_misfits(rack):
     names = names_in(rack)
-    return (not SMALLEST_KEY <= rack["key"] <= LARGEST_KEY or rack["F_t"] >= P
+    # A.5: "the new limit, above which t is a misfit"
+    return (not SMALLEST_KEY <= rack["key"] <= LARGEST_KEY or rack["F_t"] >= P or rack["t"] > LAST_T
             or rack["t"] == 0 and rack["F_t"] != 0 or len(set(names)) != len(names)
             or any(place_misfits(place, rack) for place in rack["places"]))
 
@@ -314,15 +332,13 @@ def stroke(rack):
 ONES = bytes([1]) * 16
 
 
-def card_place(name, c, t):
-    """Sixteen ones under key 2, put in at c, after t ones."""
+def card_place(name, c, t, begun=0):
+    """Sixteen ones under key 2, put in at c, after ones up to t in a stream begun at a t."""
     ladder = Ladder(make_card(ONES, 2))
     for _ in range(t - c):
         ladder.take(1)
     watch = stored(ladder)
-    before = Ladder(make_card(ONES, 2))
-    for _ in range(t):
-        before.take(1)
+    before = ones_from(begun, t)
     for i in range(STAGES):             # the starts raised by c, and the prints of them
         if watch[stage_name(i, "held")]:
             for start, of_it in (("first", "F_first"), ("last", "F_last")):
@@ -332,13 +348,18 @@ def card_place(name, c, t):
     return dict(watch, name=name, since=c)
 
 
-def rack_of(t, *cards):
-    ladder = Ladder(make_card(ONES, 2))
-    for _ in range(t):
+def ones_from(begun, t):
+    """The ladder after ones from one t to another."""
+    ladder = late_ladder(make_card(ONES, 2), begun)
+    for _ in range(t - begun):
         ladder.take(1)
-    places = [card_place(name, c, t) for name, c in cards]
+    return ladder
+
+
+def rack_of(t, *cards, begun=0):
+    places = [card_place(name, c, t, begun) for name, c in cards]
     places += [free_place() for _ in range(CARDS - len(places))]
-    return {"key": 2, "t": t, "F_t": ladder.F[-1], "places": places}
+    return {"key": 2, "t": t, "F_t": ones_from(begun, t).F[-1], "places": places}
 
 
 RACKS = {
@@ -346,8 +367,11 @@ RACKS = {
     "cards 300 since 0, 7 since 3 and 65535 since 6 at 6": (6, (300, 0), (7, 3), (65535, 6)),
     "card 300": (0, (300, 0)),
     "sixteen cards": (0, *[(4369 * i, 0) for i in range(CARDS)]),
+    "late cards 300, 7 and 65535": (PAST_NARROW + 3, (300, PAST_NARROW - 3), (7, PAST_NARROW),
+                                    (65535, PAST_NARROW + 3)),
 }
-EMPTY, THREE, ONE, FILLED = RACKS
+EMPTY, THREE, ONE, FILLED, LATE = RACKS
+BEGUN = {LATE: PAST_NARROW - 3}
 
 # A rack, and the numbers replaced in it: of a place, or of the rack itself (None). All
 # with name 300.
@@ -362,6 +386,27 @@ RACK_CASES = [
     (ONE, (None, "t", LAST_T - 1), (0, "since", LAST_T)),
     (ONE, (None, "t", LAST_T), (0, "since", LAST_T)),
     (ONE, (None, "t", LAST_T), (None, "F_t", P)),
+    *[(rack, (None, "t", t)) for rack in (EMPTY, ONE, FILLED)
+      for t in (PAST_NARROW - 1, PAST_NARROW, LAST_T + 1, 2 ** 63, TOP)],
+    *[(ONE, (None, "t", t), (0, "since", c)) for t, c in (
+        (PAST_NARROW, PAST_NARROW), (PAST_NARROW, PAST_NARROW + 1), (PAST_NARROW + 6, 6),
+        (PAST_NARROW + 6, PAST_NARROW + 7), (6, PAST_NARROW + 6), (6, PAST_NARROW),
+        (LAST_T, PAST_NARROW), (LAST_T, 2 ** 63), (LAST_T + 1, LAST_T + 1), (TOP, TOP))],
+    (THREE, (3, "since", PAST_NARROW)), (EMPTY, (0, "since", PAST_NARROW)),
+    (THREE, (2, "since", PAST_NARROW + 6)),
+    *[(ONE, (None, "t", t), (None, "F_t", P)) for t in (PAST_NARROW, LAST_T + 1)],
+    (LATE,), *[(LATE, (None, "t", t)) for t in (3, PAST_NARROW + 2, PAST_NARROW + 4,
+                                               2 * PAST_NARROW + 3, LAST_T)],
+    *[(LATE, (place, "since", c)) for place, c in (
+        (0, PAST_NARROW - 2), (0, PAST_NARROW - 3), (0, 0), (1, PAST_NARROW - 1),
+        (1, PAST_NARROW + 1), (1, 0), (2, PAST_NARROW + 4), (2, 3), (2, 2 * PAST_NARROW + 3),
+        (2, TOP))],
+    *[(LATE, (place, "stage 0 first", start), (place, "stage 0 last", start)) for place, start in (
+        (0, 2), (0, PAST_NARROW + 1), (0, PAST_NARROW + 3), (0, 2 * PAST_NARROW + 2), (0, TOP),
+        (1, PAST_NARROW + 2))],
+    *[(LATE, (0, "stage 2 first", first), (0, "stage 2 last", last)) for first, last in (
+        (PAST_NARROW - 3, PAST_NARROW - 1), (PAST_NARROW - 2, PAST_NARROW - 1),
+        (PAST_NARROW - 3, 2 * PAST_NARROW - 1), (TOP, 1))],
     *[(THREE, (0, "length", m)) for m in (8, 9, 17)],
     *[(THREE, (2, "length", m)) for m in (1048576, 1048577)],
     (THREE, (2, "key", 1)), (THREE, (2, "key", 3)),
@@ -413,7 +458,7 @@ def case(tally, words, rack, name, card):
 
 
 def rack_case(tally, words, *changes):
-    rack = rack_of(*RACKS[words])
+    rack = rack_of(*RACKS[words], begun=BEGUN.get(words, 0))
     for place, name, value in changes:
         words += ", %s%s is %d" % ("" if place is None else "place %d " % place, name, value)
         (rack if place is None else rack["places"][place])[name] = value

@@ -19,7 +19,9 @@ sys.dont_write_bytecode = True
 from card import (BEFORE_A4, LONGEST_CARD_RECORD, NOW, P, SPENT, Refusal, card_record,
                   fingerprint, read_card, tested_lengths)
 
-LAST_T = 4294967295             # "a stream byte when t = 4294967295"
+# "a stream byte when t = 4294967295"; A.5: "the stream run to 1099511627775 bytes", "Refusal 6
+# moves to the new limit"
+LAST_T = 1099511627775
 
 
 class Ladder:

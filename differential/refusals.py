@@ -1,6 +1,6 @@
-"""Refusals, by the sentences of document 01 and of request A.4 of document 02: what every
-call says of a value or a record; and the cases of refusals that the program refusal_trials
-tries.
+"""Refusals, by the sentences of document 01 and of requests A.4 and A.5 of document 02: what
+every call says of a value or a record; and the cases of refusals that the program
+refusal_trials tries.
 
 A value is a dict from the words of document 01 to numbers: "length", "key" and
 "print 0" to "print 20" of a card; besides them "taken" and "running print" of a
@@ -8,12 +8,14 @@ half-made card; "t", "F_t" and "stage 0 held" to "stage 19 step print" of a watc
 A case names the numbers that are replaced.
 """
 
-from card import (CARD_KIND, KIND, LARGEST_KEY, LONGEST_PASSAGE, MISFIT, P, PARKED_KIND,
-                  SHORT, SMALLEST_KEY, SPENT, field, fingerprint, make_card, number,
+from card import (CARD_KIND, KIND, LARGEST_KEY, LONGEST_PASSAGE, MISFIT, P, SHORT,
+                  SMALLEST_KEY, SPENT, Refusal, field, fingerprint, make_card, number,
                   tested_lengths, write_card)
+from parked import FORMS, LAST_NARROW_T, NARROW, WIDE, read_parked, whole_size, write_parked
 from reference import LAST_T, Ladder, listing
 
 EMPTY, OVERLONG, KEY, UNFINISHED, SURPLUS, NO_SPACE, OTHER = 1, 2, 3, 4, 5, 7, 11
+TOO_WIDE = 18
 PRINTS, STAGES = 21, 20
 # "per stage: held, first, F_first, last, F_last, step, step print."
 FIELDS = ["held", "first", "F_first", "last", "F_last", "step", "step print"]
@@ -93,6 +95,8 @@ def stage_misfits(stage, t, youngest, oldest):
 def watch_misfits(value):
     if card_misfits(value) or value["F_t"] >= P:
         return True
+    if value["t"] > LAST_T:                     # A.5: "the new limit, above which t is a misfit"
+        return True
     t, lengths = value["t"], tested_lengths(value["length"])
     if t == 0 and value["F_t"] != 0:            # "F_t not 0 at t = 0"
         return True
@@ -108,7 +112,8 @@ def watch_misfits(value):
 
 # ---- Calls -------------------------------------------------------------------
 # "Order: value handed in (10), then 1, 2, 3; 5; 4; 6; 7. Reading: 8, length under 2
-# (10), 9, length too small (10), 11, other 10."
+# (10), 9, length too small (10), 11, other 10." A.5: "18 when a narrow record is wanted
+# above that t, before 7."
 
 def first_of(*judgements):
     """The number of the first judgement that holds, 0 for none."""
@@ -144,26 +149,29 @@ def stroke(watch):
     return first_of((watch_misfits(watch), MISFIT), (watch["t"] == LAST_T, SPENT))
 
 
-def watch_size(watch):
-    return 26 + 28 * (len(tested_lengths(watch["length"])) - 1)
+def watch_size(watch, form):
+    return whole_size(form, len(tested_lengths(watch["length"])) - 1)
 
 
-def park(watch, space):
-    return MISFIT if watch_misfits(watch) else first_of((space < watch_size(watch), NO_SPACE))
+def park(watch, form, space):
+    if watch_misfits(watch):
+        return MISFIT
+    return first_of((form == NARROW and watch["t"] > LAST_NARROW_T, TOO_WIDE),
+                    (space < watch_size(watch, form), NO_SPACE))
 
 
-def head(buffer, kind, least):
-    """The refusal of a record's head."""
+def head(buffer, leasts):
+    """The refusal of a record's head; the wanted kinds, each with its least length."""
     if len(buffer) < 4 or len(buffer) < field(buffer, 0) + 4:
         return SHORT
-    length = field(buffer, 0)
-    return first_of((length < 2, MISFIT), (int.from_bytes(buffer[4:6], "little") != kind, KIND),
-                    (length < least, MISFIT))
+    length, kind = field(buffer, 0), field(buffer, 4, 2)
+    return first_of((length < 2, MISFIT), (kind not in leasts, KIND),
+                    (length < leasts.get(kind, 0), MISFIT))
 
 
 def read(buffer):
     """A card's record."""
-    refusal = head(buffer, CARD_KIND, 10)
+    refusal = head(buffer, {CARD_KIND: 10})
     if refusal:
         return refusal
     card = {"length": field(buffer, 6), "key": field(buffer, 10)}
@@ -179,7 +187,8 @@ def resume(card, buffer):
     """A parked watch's record, under a card."""
     if card_misfits(card):
         return MISFIT
-    refusal = head(buffer, PARKED_KIND, 22)
+    # A.5: "Kind 4 is still read"
+    refusal = head(buffer, {form.kind: form.least for form in FORMS.values()})
     if refusal:
         return refusal
     # "m, r or last fingerprint differs from the card"
@@ -187,12 +196,15 @@ def resume(card, buffer):
     own = [card["length"], card["key"], card[print_name(k)]]
     if [field(buffer, at) for at in (6, 10, 14)] != own:
         return OTHER
-    if field(buffer, 0) + 4 != watch_size(card):
+    form = FORMS[field(buffer, 4, 2)]
+    if field(buffer, 0) + 4 != watch_size(card, form):
         return MISFIT
-    watch = dict(card, **{"t": field(buffer, 18), "F_t": field(buffer, 22)})
+    fields = read_parked(form, buffer, k)[3:]
+    watch = dict(card, **{"t": fields[0], "F_t": fields[1]})
+    fields = fields[2:] + [0] * 7 * (STAGES - k)
     for i in range(STAGES):
         for j, name in enumerate(FIELDS):
-            watch[stage_name(i, name)] = field(buffer, 26 + 28 * i + 4 * j) if i < k else 0
+            watch[stage_name(i, name)] = fields[7 * i + j]
     return MISFIT if watch_misfits(watch) else 0
 
 
@@ -247,17 +259,54 @@ def watch_of(m, taken):
     return stored(ladder)
 
 
-def record_of(watch):
+class Late:
+    """The running fingerprints from a late t on."""
+
+    def __init__(self, t, f):
+        self.t, self.prints = t, {t: f}
+
+    def __getitem__(self, x):
+        return self.prints[self.t if x == -1 else x]
+
+    def append(self, f):
+        self.t += 1
+        self.prints[self.t] = f
+
+
+def late_ladder(card, t):
+    """A ladder that has taken t bytes of which nothing is listed, with some print."""
+    ladder = Ladder(card)
+    if t:
+        ladder.t, ladder.F = t, Late(t, LATE_PRINT)
+    return ladder
+
+
+def late_watch(m, t, taken):
+    """The watch that listed nothing at t, so many ones later."""
+    ladder = late_ladder(plain_card(m), t)
+    for _ in range(taken):
+        ladder.take(1)
+    return stored(ladder)
+
+
+def record_of(watch, form):
     k = len(tested_lengths(watch["length"])) - 1
     fields = [watch["length"], watch["key"], watch[print_name(k)], watch["t"], watch["F_t"]]
     fields += [watch[stage_name(i, name)] for i in range(k) for name in FIELDS]
-    body = number(PARKED_KIND, 2) + b"".join(number(one) for one in fields)
-    return number(len(body)) + body
+    return write_parked(form, fields)
+
+
+def can_say(watch, form):
+    """Whether each number of the watch has room in its field of a record."""
+    places = [watch["t"]] + [watch[stage_name(i, name)]
+                             for i in range(STAGES) for name in ("first", "last")]
+    return max(places) < 256 ** form.place
 
 
 # ---- Lines -------------------------------------------------------------------
 
-FILLER, ROOM, BEHIND, NARROW, SHORTEST = 170, 600, 9, 25, 3
+FILLER, ROOM, BEHIND, SHORTEST, LATE_PRINT = 170, 800, 9, 3, 12345
+TOO_FEW = {WIDE: 29, NARROW: 25}
 
 
 class Lines:
@@ -278,7 +327,7 @@ class Lines:
 
 def count_words(numbers):
     words = " accepted %d" % numbers.count(0)
-    for refusal in range(1, 12):
+    for refusal in range(1, 19):
         if refusal in numbers:
             words += ", refused %d with %d" % (numbers.count(refusal), refusal)
     return words
@@ -305,8 +354,20 @@ def strikes(watch):
 
 
 def parkings(watch):
-    """Into a buffer, behind used bytes, and into too few."""
-    return [park(watch, ROOM), park(watch, ROOM - BEHIND), park(watch, NARROW)]
+    """Into a buffer, behind used bytes, and into too few; wide, and then narrow."""
+    return [park(watch, form, space) for form in (WIDE, NARROW)
+            for space in (ROOM, ROOM - BEHIND, TOO_FEW[form])]
+
+
+def resumptions(watch):
+    """From a wide record, and from a narrow one if it can say the watch."""
+    return [resume(card_part(watch), in_room(record_of(watch, form)))
+            for form in (WIDE, NARROW) if can_say(watch, form)]
+
+
+def card_part(watch):
+    return {name: watch[name]
+            for name in ["length", "key"] + [print_name(i) for i in range(PRINTS)]}
 
 
 # ---- The maker ---------------------------------------------------------------
@@ -367,17 +428,26 @@ def cards(lines):
 
 # ---- Watches -----------------------------------------------------------------
 
+# The first number that a field of 4 bytes cannot hold, and the largest of 8 bytes.
+PAST_NARROW, TOP = 2 ** 32, 2 ** 64 - 1
+
 # Sixteen ones, of which six were taken: stage 0 lists 5, stage 1 lists 3 and 4, stage 2
 # lists 0, 1 and 2, stage 3 none.
 WATCHES = [
-    (), (("t", 0),), (("t", 5),), (("t", 7),), (("t", 4294967295),), (("F_t", 0),),
-    (("F_t", P - 1),), (("F_t", P),), (("F_t", 4294967295),),
+    (), (("t", 0),), (("t", 5),), (("t", 7),), (("t", 4294967295),),
+    (("t", PAST_NARROW + 6),), (("t", LAST_T + 7),), (("t", 2 ** 63 + 6),), (("t", TOP),),
+    (("F_t", 0),), (("F_t", P - 1),), (("F_t", P),), (("F_t", 4294967295),),
     *[(("stage 3 " + name, 1),) for name in FIELDS],
+    (("stage 3 first", PAST_NARROW),), (("stage 3 last", PAST_NARROW),),
+    (("stage 3 first", PAST_NARROW), ("stage 3 last", PAST_NARROW)),
     (("stage 0 held", 0),), (("stage 0 held", 2),), (("stage 0 first", 4),),
     (("stage 0 F_first", 0),), (("stage 0 last", 4),), (("stage 0 F_last", 0),),
     (("stage 0 step", 1),), (("stage 0 step print", 1),),
     (("stage 0 F_first", P - 1), ("stage 0 F_last", P - 1)),
     (("stage 0 F_first", P), ("stage 0 F_last", P)),
+    (("stage 0 first", PAST_NARROW + 5),), (("stage 0 last", PAST_NARROW + 5),),
+    (("stage 0 first", PAST_NARROW + 5), ("stage 0 last", PAST_NARROW + 5)),
+    (("stage 0 first", TOP), ("stage 0 last", TOP)),
     (("stage 2 held", 0),), (("stage 2 held", 1),), (("stage 2 held", 2),),
     (("stage 2 held", 4),), (("stage 2 first", 1),), (("stage 2 last", 1),),
     (("stage 2 step", 0),), (("stage 2 step", 2),),
@@ -389,8 +459,14 @@ WATCHES = [
     (("stage 2 held", 2147483650), ("stage 2 step", 2)),
     (("stage 1 held", 2863311532), ("stage 1 step", 3)),
     (("stage 1 held", 4294967295), ("stage 1 step", 4294967295)),
+    (("stage 2 first", PAST_NARROW), ("stage 2 last", PAST_NARROW + 2)),
+    (("stage 2 last", PAST_NARROW + 2),), (("stage 2 held", 4), ("stage 2 first", TOP)),
+    (("stage 2 first", TOP), ("stage 2 last", TOP)),
 ]
-FRESH = [(), (("F_t", 1),), (("t", 1),), (("t", 1), ("F_t", 1)), (("stage 0 held", 1),)]
+FRESH = [(), (("F_t", 1),), (("t", 1),), (("t", 1), ("F_t", 1)), (("stage 0 held", 1),),
+         *[(("t", t),) for t in (PAST_NARROW - 2, PAST_NARROW - 1, PAST_NARROW, PAST_NARROW + 1,
+                                 LAST_T - 2, LAST_T - 1, LAST_T, LAST_T + 1, 2 ** 63, TOP)],
+         *[(("t", t), ("F_t", P)) for t in (PAST_NARROW, LAST_T, LAST_T + 1)]]
 PAST = [*[(16, "stage 4 " + name) for name in FIELDS], (16, "stage 19 held"),
         (16, "stage 19 step print"), (1, "stage 0 held"), (1, "stage 19 F_last")]
 WATCH_CARDS = [("length", 0), ("length", 8), ("length", 9), ("length", 17),
@@ -407,26 +483,57 @@ AGES = [
     (1048576, 19, 2000000, 951424, 951424), (1048576, 19, 2000000, 951425, 951425),
     (1048576, 19, 2000000, 951425, 1475712), (1048576, 19, 2000000, 1475712, 1475712),
     (1048576, 19, 2000000, 1475713, 1475713),
-    (1048576, 19, 4294967294, 4293918718, 4293918718),
-    (1048576, 19, 4294967294, 4293918719, 4294443006),
-    (1048576, 19, 4294967294, 4294443007, 4294443007),
+    *[(1048576, 19, t, t - 1048576, t - 1048576) for t in (4294967294, LAST_T - 1)],
+    *[(1048576, 19, t, t - 1048575, t - 524288) for t in (4294967294, LAST_T - 1)],
+    *[(1048576, 19, t, t - 524287, t - 524287) for t in (4294967294, LAST_T - 1)],
+    # Around 2^32, and where a start or t is right only modulo 2^32.
+    *[(16, 3, PAST_NARROW + 4, PAST_NARROW - back, PAST_NARROW - back) for back in (12, 11, 4, 3)],
+    (16, 3, PAST_NARROW + 4, PAST_NARROW - 11, PAST_NARROW - 4),
+    (16, 3, PAST_NARROW + 12, PAST_NARROW - 3, PAST_NARROW + 4),
+    (16, 3, PAST_NARROW + 100, PAST_NARROW + 85, PAST_NARROW + 85),
+    (16, 3, PAST_NARROW + 100, 85, 85), (16, 3, 100, PAST_NARROW + 85, PAST_NARROW + 85),
+    (16, 3, 100, 85, PAST_NARROW + 92), (16, 3, PAST_NARROW + 100, 85, PAST_NARROW + 92),
+    # Around the last t, and where a start or t is right only modulo 2^64.
+    (16, 3, LAST_T, LAST_T - 15, LAST_T - 8), (16, 3, LAST_T + 1, LAST_T - 14, LAST_T - 7),
+    (16, 3, 2 ** 63, 2 ** 63 - 15, 2 ** 63 - 8), (16, 3, TOP, TOP - 15, TOP - 8),
+    (16, 3, TOP, TOP, TOP), (16, 3, 7, TOP - 7, TOP - 7), (16, 3, 7, TOP - 7, TOP),
+]
+# Length, stage, t, held, first, last, step.
+SPANS = [
+    (16, 3, PAST_NARROW + 4, 8, PAST_NARROW - 11, PAST_NARROW - 4, 1),
+    (16, 3, PAST_NARROW + 4, 2, PAST_NARROW - 11, PAST_NARROW - 4, 7),
+    (16, 3, PAST_NARROW + 4, 4294967295, PAST_NARROW - 11, PAST_NARROW - 4, 1),
+    (16, 3, PAST_NARROW + 4, 2, PAST_NARROW - 11, PAST_NARROW - 4, 4294967295),
+    (16, 3, PAST_NARROW + 4, 4294967295, PAST_NARROW - 11, PAST_NARROW - 4, 4294967295),
+    (16, 3, PAST_NARROW + 4, 2, PAST_NARROW - 4, PAST_NARROW - 11, 4294967289),
+    (16, 3, PAST_NARROW + 4, 0, PAST_NARROW, PAST_NARROW, 0),
+    (1048576, 19, LAST_T, 2, LAST_T - 1048575, LAST_T - 524288, 524287),
+    (1048576, 19, LAST_T, 524288, LAST_T - 1048575, LAST_T - 524288, 1),
+    (1048576, 19, LAST_T, 4294967295, LAST_T - 1048575, LAST_T - 524288, 4294967295),
+    (16, 3, 2 ** 63, 4294967295, 2 ** 63 - 15, TOP, 4294967295),
+    (16, 3, TOP, 4294967295, 1, 18446744060824649731, 4294967295),
+    (16, 3, TOP, 2, TOP - 15, TOP - 8, 7), (16, 3, 7, 2, TOP - 7, TOP, 7),
+    (16, 3, 7, 4294967295, TOP - 7, TOP, 4294967295),
 ]
 
 
 def watch_case(lines, m, taken, changes):
-    """A watch with numbers replaced, as a value and in its record."""
+    """A watch with numbers replaced, as a value and in its records."""
     watch = dict(watch_of(m, taken), **dict(changes))
     lines.say("watch of %d at %d%s" % (m, taken, change_words(changes)), *strikes(watch),
-              *parkings(watch), resume(card_of(m), in_room(record_of(watch))))
+              *parkings(watch), *resumptions(watch))
+
+
+def span_case(lines, m, i, t, held, first, last, step):
+    watch = dict(watch_of(m, 0), **{"t": t, "F_t": LATE_PRINT})
+    for name, what in zip(FIELDS, [held, first, LATE_PRINT, last, LATE_PRINT, step, 0]):
+        watch[stage_name(i, name)] = what
+    lines.say("watch of %d at %d, stage %d lists %d from %d to %d by %d"
+              % (m, t, i, held, first, last, step), *strikes(watch), *parkings(watch))
 
 
 def age_case(lines, m, i, t, first, last):
-    watch = dict(watch_of(m, 0), **{"t": t, "F_t": 12345})
-    held = 1 if first == last else 2
-    for name, what in zip(FIELDS, [held, first, 12345, last, 12345, last - first, 0]):
-        watch[stage_name(i, name)] = what
-    lines.say("watch of %d at %d, stage %d lists %d to %d" % (m, t, i, first, last),
-              *strikes(watch), *parkings(watch))
+    span_case(lines, m, i, t, 1 if first == last else 2, first, last, (last - first) % 2 ** 32)
 
 
 def watches(lines):
@@ -443,6 +550,8 @@ def watches(lines):
                   *parkings(watch))
     for case in AGES:
         age_case(lines, *case)
+    for case in SPANS:
+        span_case(lines, *case)
 
 
 # ---- Records -----------------------------------------------------------------
@@ -466,7 +575,7 @@ CARD_RECORDS = [
     (26, 3, 600, 14, 1), (26, 3, 600, 14, 256), (26, 3, 600, 14, 257), (26, 3, 600, 26, P - 1),
     (26, 3, 600, 26, P),
 ]
-WATCH_RECORDS = [
+NARROW_RECORDS = [
     (106, 4, 0, 6, 5), (106, 4, 3, 6, 5), (106, 4, 109, 6, 5), (106, 4, 110, 6, 5),
     (106, 4, 111, 6, 5), (106, 3, 109, 6, 6), (106, 2, 109, 6, 5), (106, 1, 109, 6, 5),
     (4294967295, 3, 600, 6, 5), (4294967292, 4, 600, 6, 6), (4294967295, 2, 600, 6, 5),
@@ -481,6 +590,20 @@ WATCH_RECORDS = [
     (106, 4, 600, 6, 6), (106, 4, 600, 6, 0), (106, 4, 600, 6, 1048577), (106, 4, 600, 10, 3),
     (106, 4, 600, 10, 0), (106, 4, 600, 14, 61), (106, 4, 600, 14, 4294967295),
 ]
+WIDE_RECORDS = [
+    *[(134, 5, n, 6, 5) for n in (0, 3, 137, 138, 139)], (134, 3, 137, 6, 6), (134, 4, 137, 6, 5),
+    (4294967295, 4, 600, 6, 5), (4294967292, 5, 600, 6, 6), (0, 5, 4, 6, 5), (1, 5, 5, 6, 5),
+    (2, 5, 6, 6, 5), *[(n, 5, n + 4, 6, 6) for n in (21, 22, 25, 26)], (26, 5, 30, 6, 5),
+    (25, 4, 29, 6, 6), (26, 4, 30, 6, 6), *[(n, 5, 600, 6, 5) for n in (98, 133, 135, 170)],
+    (170, 5, 600, 6, 9), (135, 5, 600, 10, 3), *[(134, 5, 600, 6, m) for m in (6, 0, 1048577)],
+    (134, 5, 600, 10, 3), (134, 5, 600, 10, 0), (134, 5, 600, 14, 61), (134, 5, 600, 14, 4294967295),
+    # t is at 18, stage 0's first at 34 and last at 46, stage 1's at 70 and 82; their high bytes are
+    # the second four.
+    *[(134, 5, 600, at, what) for at in (22, 38, 50, 74, 86) for what in (1, 256, 2 ** 31, 2 ** 32 - 1)],
+]
+# Length, m; each with every kind.
+KINDS = [*range(8), 256 + 4, 256 + 5, 1024, 1280]
+KIND_ROWS = [(length, m) for length in (0, 1, 2, 21, 22, 25, 26, 106, 134) for m in (5, 6)]
 MISFIT_RECORDS = [(2, 14), (2, P), (3, P), (3, 14)]
 
 
@@ -522,71 +645,196 @@ def card_records(lines):
         sweeps(lines, "card record of %d" % m, write_card(plain_card(m)), read)
 
 
+FORM_WORDS = {NARROW: "narrow", WIDE: "wide"}
+# Length, t at which nothing was listed, ones since then.
+SWEPT = [(1, 0, 0), (1, 0, 6), (5, 0, 3), (16, 0, 6), (64, 0, 50), (1, PAST_NARROW - 7, 6),
+         (16, PAST_NARROW - 3, 6), (1, LAST_T - 6, 6), (5, LAST_T - 3, 3)]
+
+
 def watch_records(lines):
-    card, record = card_of(5), record_of(watch_of(5, 3))
-    for case in WATCH_RECORDS:
-        record_case(lines, "watch", record, lambda buffer: resume(card, buffer), *case)
-    for key, f in MISFIT_RECORDS:
-        buffer = replaced(replaced(in_room(record), 10, number(key)), 22, number(f))
-        lines.say("watch record, key %d, F_t %d" % (key, f), resume(card, buffer))
-    for m, taken in ((1, 0), (1, 6), (5, 3), (16, 6), (64, 50)):
-        sweeps(lines, "watch record of %d at %d" % (m, taken), record_of(watch_of(m, taken)),
-               lambda buffer, card=card_of(m): resume(card, buffer))
+    card, watch = card_of(5), watch_of(5, 3)
+    for form, rows, at in ((NARROW, NARROW_RECORDS, 22), (WIDE, WIDE_RECORDS, 26)):
+        words, record = FORM_WORDS[form], record_of(watch, form)
+        for case in rows:
+            record_case(lines, words, record, lambda buffer: resume(card, buffer), *case)
+        for key, f in MISFIT_RECORDS:
+            buffer = replaced(replaced(in_room(record), 10, number(key)), at, number(f))
+            lines.say("%s record, key %d, F_t %d" % (words, key, f), resume(card, buffer))
+        for length, m in KIND_ROWS:
+            buffer = replaced(replaced(in_room(record), 0, number(length)), 6, number(m))
+            lines.say("%s record, length %d, m %d, every kind" % (words, length, m),
+                      *[resume(card, replaced(buffer, 4, number(kind, 2))) for kind in KINDS])
+    for m, t, taken in SWEPT:
+        for form in (NARROW, WIDE):
+            watch = late_watch(m, t, taken)
+            if can_say(watch, form):
+                sweeps(lines, "%s record of %d at %d" % (FORM_WORDS[form], m, watch["t"]),
+                       record_of(watch, form), lambda buffer, card=card_of(m): resume(card, buffer))
 
 
 # ---- Ends --------------------------------------------------------------------
 
-EDGES = [(0, 0), (25, 0), (26, 0), (27, 0), (51, 26), (52, 26), (26, 26), (26, 27),
-         (26, 4294967295)]
+def edges(size):
+    return [(0, 0), (size - 1, 0), (size, 0), (size + 1, 0), (2 * size - 1, size), (2 * size, size),
+            (size, size), (size, size + 1), (size, 4294967295), (size, TOP)]
+
+
+# Length, t at which nothing was listed, ones since then, used bytes.
+SPACES = [(1, 0, 6, 0), (1, 0, 6, 31), (5, 0, 6, 0), (1048576, 0, 6, 0), (5, PAST_NARROW - 1, 0, 0),
+          (5, PAST_NARROW - 2, 2, 0), (5, LAST_T, 0, 11), (5, LAST_T + 1, 0, 0)]
 
 
 def spaces(lines):
     watch = watch_of(1, 6)
-    for n, used in EDGES:
-        lines.say("watch of 1 in %d bytes, used %d" % (n, used), park(watch, max(n - used, 0)))
+    for form in (WIDE, NARROW):
+        for n, used in edges(watch_size(watch, form)):
+            lines.say("%s, watch of 1 in %d bytes, used %d" % (FORM_WORDS[form], n, used),
+                      park(watch, form, max(n - used, 0)))
     for m in (1, 5, 1048576):
         size = len(write_card(plain_card(m)))
         lines.counts("card of %d in every space" % m,
                      [write(card_of(m), n) for n in range(size + 4)])
-    for m, used in ((1, 0), (1, 31), (5, 0), (1048576, 0)):
-        watch = watch_of(m, 6)
-        spaces_there = range(used + len(record_of(watch)) + 4)
-        lines.counts("watch of %d at 6 in every space, used %d" % (m, used),
-                     [park(watch, max(n - used, 0)) for n in spaces_there])
+    for form in (WIDE, NARROW):
+        for m, t, taken, used in SPACES:
+            watch = late_watch(m, t, taken)
+            spaces_there = range(used + watch_size(watch, form) + 4)
+            lines.counts("%s, watch of %d at %d in every space, used %d"
+                         % (FORM_WORDS[form], m, watch["t"], used),
+                         [park(watch, form, max(n - used, 0)) for n in spaces_there])
 
 
-class Late:
-    """The running fingerprints from a late t on."""
+# ---- Both kinds in one buffer --------------------------------------------------
 
-    def __init__(self, t, f):
-        self.t, self.prints = t, {t: f}
-
-    def __getitem__(self, x):
-        return self.prints[self.t if x == -1 else x]
-
-    def append(self, f):
-        self.t += 1
-        self.prints[self.t] = f
+# Length, t at which nothing was listed, ones since then, kind.
+ROWS = [(5, 0, 3, 4), (5, 0, 3, 5), (16, PAST_NARROW - 4, 3, 4), (16, PAST_NARROW - 4, 4, 4),
+        (16, PAST_NARROW - 4, 4, 5), (1, PAST_NARROW - 1, 0, 4), (1, LAST_T, 0, 4), (1, LAST_T, 0, 5),
+        (5, LAST_T + 1, 0, 5), (5, LAST_T + 1, 0, 4), (2, 0, 2, 4)]
 
 
-LAST_BYTES = [(1, 4294967294), (1, 4294967295), (2, 4294967293), (3, 4294967292),
-              (16, 4294967270), (16, 4294967295), (1048576, 4294967294), (1048576, 4294967295)]
+def one_behind_another(lines, cut):
+    """Parked behind 7 used bytes, into a buffer that is as long as all of the records, but for
+    so many bytes; then resumed one by one."""
+    watches = [(late_watch(m, t, taken), FORMS[kind]) for m, t, taken, kind in ROWS]
+    sizes = [watch_size(watch, form) for watch, form in watches if not park(watch, form, ROOM)]
+    space, used, parked = 7 + sum(sizes) - cut, 7, []
+    buffer = bytes([FILLER]) * space
+    for (m, t, taken, kind), (watch, form) in zip(ROWS, watches):
+        refusal = park(watch, form, space - used)
+        if not refusal:
+            buffer = replaced(buffer, used, record_of(watch, form))
+            parked.append((used, watch))
+            used += watch_size(watch, form)
+        lines.say("%s, watch of %d at %d behind %d" % (FORM_WORDS[form], m, watch["t"], used), refusal)
+    for at, watch in parked:
+        lines.say("resumed from %d" % at, resume(card_part(watch), buffer[at:]))
+    print("buffer " + buffer.hex())
 
 
-def last_bytes(lines, m, t):
-    ladder = Ladder(plain_card(m))
-    ladder.t, ladder.F = t, Late(t, 12345)
-    watch = stored(ladder)
-    lines.say("late watch of %d at %d" % (m, t), resume(card_of(m), in_room(record_of(watch))))
-    while not stroke(watch):
+# ---- t at its limits -----------------------------------------------------------
+
+LIMITS = [PAST_NARROW - 2, PAST_NARROW - 1, PAST_NARROW, PAST_NARROW + 1, LAST_T - 2, LAST_T - 1,
+          LAST_T, LAST_T + 1, LAST_T + PAST_NARROW, 2 ** 63, TOP]
+
+
+def say_records(watch):
+    """The bytes of both records, each if it is written."""
+    for form in (WIDE, NARROW):
+        if watch["length"] < 64 and not park(watch, form, ROOM):
+            print("%s %s" % (FORM_WORDS[form], record_of(watch, form).hex()))
+
+
+def limits(lines):
+    for m in (1, 5, 1048576):
+        for t in LIMITS:
+            watch = late_watch(m, t, 0)
+            lines.say("watch of %d at %d" % (m, t), *strikes(watch), *parkings(watch),
+                      *resumptions(watch))
+            say_records(watch)
+
+
+SCANNED = 12
+
+
+def scans(lines):
+    """Bytes in one call: until one has something to report, none is left or one is refused."""
+    for m in (1, 2, 16):
+        for t in (PAST_NARROW - 6, PAST_NARROW - 1, LAST_T - 6, LAST_T):
+            for byte in (0, 1):
+                scan(lines, m, t, byte)
+
+
+def scan(lines, m, t, byte):
+    ladder, total, rung, sets = late_ladder(plain_card(m), t), 0, None, []
+    refusal = 0
+    while ladder.t - t < SCANNED and rung is None and not sets and not refusal:
+        try:
+            rung, sets, comparisons = ladder.take(byte)
+            total += comparisons
+        except Refusal as met:
+            refusal = met.number
+    assert not sets
+    lines.met.append(refusal)
+    print("scan of %d bytes %d, watch of %d at %d: %d, next %d, t %d%s, comparisons %d"
+          % (SCANNED, byte, m, t, refusal, ladder.t - t, ladder.t,
+             "" if rung is None else ", rings %d" % rung, total))
+
+
+# ---- Ends ----------------------------------------------------------------------
+
+LAST_BYTES = [(1, LAST_T - 1), (1, LAST_T), (2, LAST_T - 2), (3, LAST_T - 3), (16, LAST_T - 25),
+              (16, LAST_T), (1048576, LAST_T - 1), (1048576, LAST_T)]
+# From a narrow record over the last t that it can say. Length, t, how many ones.
+CROSSED = [(1, PAST_NARROW - 3, 6), (2, PAST_NARROW - 4, 7), (5, PAST_NARROW - 8, 14),
+           (16, PAST_NARROW - 20, 30), (1048576, PAST_NARROW - 3, 5)]
+
+
+def take_ones(lines, ladder, n):
+    """So many ones; before each the watch is parked in both ways."""
+    for _ in range(n):
+        watch = stored(ladder)
+        assert not stroke(watch)
         lines.met += [0, 0]
         rung, sets, comparisons = ladder.take(1)
         assert not sets
         print("byte at %d: 0 0%s, comparisons %d"
               % (watch["t"], "" if rung is None else ", rings %d" % rung, comparisons))
         watch = stored(ladder)
+        lines.say("parked at %d" % watch["t"], *parkings(watch))
+    return stored(ladder)
+
+
+def crossed(lines, m, t, n):
+    ladder = late_ladder(plain_card(m), t)
+    lines.say("narrow watch of %d at %d" % (m, t),
+              resume(card_of(m), in_room(record_of(stored(ladder), NARROW))))
+    say_records(take_ones(lines, ladder, n))
+
+
+def last_bytes(lines, m, t):
+    ladder = late_ladder(plain_card(m), t)
+    lines.say("late watch of %d at %d" % (m, t),
+              resume(card_of(m), in_room(record_of(stored(ladder), WIDE))))
+    watch = take_ones(lines, ladder, LAST_T - t)
     lines.say("byte at %d" % watch["t"], *strikes(watch))
     lines.say("parked at %d" % watch["t"], *parkings(watch))
+
+
+def late_lines(t, stream):
+    """Case L's passage and stream, from t on."""
+    print("case L at %d" % t)
+    ladder, total = late_ladder(make_card(bytes([1]) * 8, 2), t), 0
+    for byte in stream:
+        try:
+            rung, sets, comparisons = ladder.take(byte)
+        except Refusal as refusal:
+            print("X %d" % refusal.number)
+            break
+        total += comparisons
+        if rung is not None:
+            print("R %d %d" % (ladder.t, rung))
+        for first, step, many in sets:
+            print("A %d %d %d %d" % (ladder.t, first, step, many))
+    print("E %d %d" % (ladder.t, total))
 
 
 def short_streams():
@@ -604,8 +852,16 @@ def refusals():
     lines = Lines()
     for part in (maker, cards, watches, card_records, watch_records, spaces):
         part(lines)
+    for cut in (0, 1):
+        one_behind_another(lines, cut)
+    limits(lines)
+    scans(lines)
+    for case in CROSSED:
+        crossed(lines, *case)
     for m, t in LAST_BYTES:
         last_bytes(lines, m, t)
     short_streams()
+    for t in (PAST_NARROW - 7, PAST_NARROW - 6, PAST_NARROW - 3, PAST_NARROW, LAST_T - 10, LAST_T - 7, LAST_T - 6):
+        late_lines(t, [1, 1, 1, 1, 1, 0, 3, 1, 1, 1])
     print("all calls:" + count_words(lines.met))
     print("failures 0")

@@ -16,9 +16,10 @@ import sys
 
 sys.dont_write_bytecode = True
 
-from card import PARKED_KIND, make_card, number, write_card
+from card import make_card, write_card
+from parked import LAST_NARROW_T, NARROW, WIDE, write_parked
 from reference import Ladder
-from refusals import refusals
+from refusals import late_ladder, refusals
 
 
 # ---- The generator -----------------------------------------------------------
@@ -237,10 +238,13 @@ def runs():
 
 # ---- Cut runs ------------------------------------------------------------------
 
-def parked(ladder):
+def form_at(n):
+    """Every other parking is narrow."""
+    return NARROW if n % 2 else WIDE
+
+
+def parked(ladder, form):
     """The record of a parked watch."""
-    # "Parked watch [...]: m, r, fingerprint of P_k, t, F_t, then stages 0 .. k-1, seven
-    # fields each". "held, first, F_first, last, F_last, step, step print."
     card, F = ladder.card, ladder.F
     fields = [card.m, card.key, card.prints[-1], ladder.t, F[-1]]
     for stage in ladder.stages:
@@ -253,12 +257,11 @@ def parked(ladder):
             step = stage[1] - first
             step_print = ladder.print_of(first, step)
         fields += [held, first, F[first], last, F[last], step, step_print]
-    body = number(PARKED_KIND, 2) + b"".join(number(field) for field in fields)
-    return number(len(body)) + body
+    return write_parked(form, fields)
 
 
-def cut(ladder, tally):
-    tally.mix_record(parked(ladder))
+def cut(ladder, tally, form):
+    tally.mix_record(parked(ladder, form))
     tally.parked += 1
     tally.resumed += 1
 
@@ -270,13 +273,13 @@ def cut_in_turn(m, i, tally):
     stream = stream_of(600 if m < 1000 else 4000, pattern, shape)
     tally.mix_record(write_card(card))
     ladder, rung, aside = Ladder(card), set(), set()
-    cut(ladder, tally)
+    cut(ladder, tally, form_at(0))
     for byte in stream:
         answer = ladder.take(byte)
         tally.answer(*answer)
         rung |= {answer[0]} - {None}
         aside |= starts(answer[1])
-        cut(ladder, tally)
+        cut(ladder, tally, form_at(ladder.t))
     tally.settle(pattern, stream, rung, aside)
 
 
@@ -289,10 +292,10 @@ def cut_alone(m, i, tally):
     stream = stream_of(m + 100, pattern, shape)
     tally.mix_record(write_card(card))
     ladder, answers = Ladder(card), []
-    records = [parked(ladder)]
+    records = [parked(ladder, form_at(0))]
     for byte in stream:
         answers.append(ladder.take(byte))
-        records.append(parked(ladder))
+        records.append(parked(ladder, form_at(ladder.t)))
     rung = {answer[0] for answer in answers} - {None}
     aside = {start for answer in answers for start in starts(answer[1])}
     for taken, record in enumerate(records):
@@ -335,8 +338,8 @@ def cut_together(m, i, tally):
 def park_together(ladders, tally):
     # "Several watches park one behind another, each written into the rest of the
     # same buffer."
-    for ladder in ladders:
-        cut(ladder, tally)
+    for j, ladder in enumerate(ladders):
+        cut(ladder, tally, form_at(ladder.t + j))
 
 
 class History:
@@ -372,7 +375,7 @@ def cut_in_lists(m, i, tally):
             kind, slot = below(state, 20), below(following(state), 3)
             if kind == 0:
                 kept[slot] = copy.deepcopy(now)
-                tally.mix_record(parked(now.ladder))
+                tally.mix_record(parked(now.ladder, form_at(below(following(following(state)), 2))))
                 tally.parked += 1
             elif kind == 1:
                 if slot in kept:
@@ -385,6 +388,42 @@ def cut_in_lists(m, i, tally):
                 now.take(next(source), tally)
         now.find(pattern, tally)
         tally.streams += 1
+
+
+# The t at which a late watch is resumed from a narrow record; half of the stream is below 2^32.
+LATE = LAST_NARROW_T + 1 - 300
+
+
+def cut_late(m, i, tally):
+    """A watch that listed nothing at a late t, cut at every byte by both records; A.5: "A narrow
+    record can be written [...] while t is at most 4294967295". Its answers are those of a fresh
+    watch, which the search judges, with the starts raised."""
+    shape = shape_of(m, i)
+    pattern = trial_pattern(m, i, shape)
+    stream = stream_of(600, pattern, shape)
+    card = make_card(pattern, shape.key)
+    tally.mix_record(write_card(card))
+    ladder, rung, aside = late_ladder(card, LATE), set(), set()
+    cut_twice(ladder, tally)
+    for byte in stream:
+        start, sets, comparisons = ladder.take(byte)
+        lowered = None if start is None else start - LATE
+        lowered_sets = [(first - LATE, step, many) for first, step, many in sets]
+        tally.answer(lowered, lowered_sets, comparisons)
+        tally.mix_answer(start, sets, comparisons)
+        rung |= {lowered} - {None}
+        aside |= starts(lowered_sets)
+        cut_twice(ladder, tally)
+    tally.settle(pattern, stream, rung, aside)
+
+
+def cut_twice(ladder, tally):
+    """By a wide record, and by a narrow one unless that is refused."""
+    cut(ladder, tally, WIDE)
+    if ladder.t <= LAST_NARROW_T:
+        cut(ladder, tally, NARROW)
+    else:
+        tally.refused += 1
 
 
 def cut_group(name, m, trial, numbers):
@@ -407,6 +446,7 @@ def cuts():
             cut_group("each cut alone", m, cut_alone, range(2, 100, 23) if small else [41])
         if small:
             cut_group("lists of calls", m, cut_in_lists, range(0, 100, 3))
+            cut_group("past 32 bits", m, cut_late, range(4, 100, 19))
     print("failures 0")
 
 

@@ -11,11 +11,11 @@ use record::checkpoint::restore;
 use record::checkpoint::save;
 
 // A ring at byte t.
-fn say(t: u32, ring: Ring) {
+fn say(t: u64, ring: Ring) {
     if let Ring::At(start) = ring {
-        io::print_decimal(1, start as u64);
+        io::print_decimal(1, start);
         io::write_all(1, b" rings at byte ");
-        io::print_decimal(1, t as u64);
+        io::print_decimal(1, t);
         io::write_all(1, b"\n");
     }
 }
@@ -45,7 +45,7 @@ fn say_name(name: u16, ring: Ring) {
 }
 
 // The rings of all names at byte t, by rising name.
-fn say_all(t: u32, reports: Reports) {
+fn say_all(t: u64, reports: Reports) {
     let mut i: u32 = 0;
     while i < CARDS {
         let report = reports.reports[i as usize];
@@ -85,7 +85,7 @@ fn main() {
     let card = make(b"ding dong ding ", Key::new(48271)).signature;
     let fresh = Matcher::start(card).matcher;
     let before = take(fresh, b"dong ding dong d");
-    let mut buffer = [0u8; 586];
+    let mut buffer = [0u8; 750];
     save(before, &mut buffer);
     let resumed = restore(card, &buffer).matcher;
     take(resumed, b"ing dong ding ding dong");

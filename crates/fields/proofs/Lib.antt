@@ -3,3 +3,4 @@ pub mod Room
 pub mod Pasted
 pub mod Laws
 pub mod Gathered
+pub mod Again

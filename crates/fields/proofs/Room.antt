@@ -11,7 +11,7 @@ use lib.Dec.{leb}
 use lib.ListN.{length}
 use borrow.Author.Tests.{le-leb, lt-leb}
 use Rattle.fields.specs.declared.Width.{Width}
-use Rattle.fields.specs.declared.Width.the-variants.{Half, Word}
+use Rattle.fields.specs.declared.Width.the-variants.{Half, Word, Double}
 use Rattle.fields.specs.declared.Found.the-variants.{Number, Missing}
 use Rattle.fields.specs.Fields.{numberFrom, numberAt}
 use Rattle.fields.specs.Calls.{widthOf, fieldAt, numberOf}
@@ -36,6 +36,7 @@ some-number w = one-le-pow w 256 (omega arith)
 pub width-bound : (width : Width) → widthOf width ≤ 8
 width-bound Half = omega arith
 width-bound Word = omega arith
+width-bound Double = omega arith
 
 module _ (s : List ℕ) (at w : ℕ) where
   pub field-missing : leb (at + w) (length s) ≡ false → Missing ≡ fieldAt s at w

@@ -5,15 +5,16 @@ use mathlib.Core.List.{List}
 use lib.ListN.{length}
 use lib.Dec.{leb}
 use Rattle.fields.specs.declared.Width.{Width}
-use Rattle.fields.specs.declared.Width.the-variants.{Half, Word}
+use Rattle.fields.specs.declared.Width.the-variants.{Half, Word, Double}
 use Rattle.fields.specs.declared.Found.{Found}
 use Rattle.fields.specs.declared.Found.the-variants.{Number, Missing}
 use Rattle.fields.specs.Fields.{littleEndian, numberFrom, pasted}
 
--- "Length (4 bytes) of what follows it, kind (2 bytes), then fields of 4 bytes."
+-- "Length (4 bytes) of what follows it, kind (2 bytes), then fields of 4 bytes"; "t, first and last in 8 bytes" (document 02, A.5).
 abbrev pub widthOf : Width → ℕ
 widthOf Half = 2
 widthOf Word = 4
+widthOf Double = 8
 
 -- A field is written: the low bytes of the value, if there is room for them; else the buffer stays as it was.
 unfoldable pub putAt : List ℕ → ℕ → ℕ → ℕ → List ℕ

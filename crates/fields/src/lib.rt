@@ -6,10 +6,11 @@ ghost use lib.ListN.{length};
 ghost use Rattle.fields.specs.Fields.{littleEndian, numberFrom, numberAt, pasted};
 ghost use Rattle.fields.specs.Calls.{widthOf, numberOf, fieldAt, putAt};
 
-// How many bytes a field has: 2 or 4.
+// How many bytes a field has: 2, 4 or 8.
 pub enum Width {
     Half,
     Word,
+    Double,
 }
 
 // What stands at a place: a number, or too few bytes for one.
@@ -25,6 +26,7 @@ impl Width {
         match self {
             Width::Half => 2,
             Width::Word => 4,
+            Width::Double => 8,
         }
     }
 }

@@ -2,6 +2,7 @@
 -- Assumes nothing.
 use mathlib.Core.Path.{_≡_, refl}
 use mathlib.Core.Bool.{true}
+use native.Mathlib.Omega.{arith}
 use Rattle.fingerprint.proofs.Laws.{empty-below}
 use Rattle.signature.specs.declared.Signature.{Signature}
 use Rattle.signature.specs.Signature.{signatureFits}
@@ -15,4 +16,4 @@ unfolding fresh
 fresh-fits s e =
     rw e
     (sound-fits (blank s)
-    (record { card = e; print = empty-below; starts = λ z. refl; stage = λ i l. idle (no-stage-at i) }))
+    (record { card = e; within = omega arith; print = empty-below; starts = λ z. refl; stage = λ i l. idle (no-stage-at i) }))

@@ -8,7 +8,7 @@ use native.Mathlib.Decide.{decLt}
 use native.Mathlib.Omega.{arith}
 use mir.Syntax.{w32, w64}
 use mir.Val.{Fits}
-use borrow.Author.Tests.{eqb-true, eqb-false, not-true}
+use borrow.Author.Tests.{eqb-true, eqb-false, eq-eqb, ne-eqb, not-true}
 use lib.Dec.{eqb}
 use lib.ListN.{getD}
 use Rattle.fingerprint.specs.declared.Key.{Key}
@@ -34,7 +34,7 @@ use Rattle.matcher.specs.declared.Walk.{Walk}
 use Rattle.matcher.specs.Stroke.{noAnswer, withAside, ringing, compared, ripe, matches, promotedUnder, tried, visited, descended, walkedFrom}
 use Rattle.matcher.specs.Skip.{Shifts}
 use Rattle.matcher.proofs.StrokeFits.{Midway, midway-begin, visited-midway}
-use Rattle.matcher.proofs.Visits.{descend-one, visit-unripe, visit-dropped, visit-rung, visit-entered, visited-grows}
+use Rattle.matcher.proofs.Visits.{with-aside, descend-one, visit-unripe, visit-dropped, visit-rung, visit-entered, visited-grows}
 
 -- t before the byte
 abbrev pub before-byte : Round → ℕ
@@ -52,7 +52,7 @@ pub record Room (k i : ℕ) (a : Answer) : Type 0 where
 pub record Index (n x : ℕ) : Type 0 where
   pub cast : Fits w64 x
   pub print : Fits w64 (x * 4)
-  pub stage : Fits w64 (x * 28)
+  pub stage : Fits w64 (x * 48)
   pub within : x < n
 
 index : (n x : ℕ) → x < n → n ≤ 21 → Index n x
@@ -211,12 +211,11 @@ module _ (c : Round) (shifts : List Power) (k n : ℕ) (before w : Walk) (pos : 
     due : ripe c i stage ≡ true
     due = rw next ripe-now
 
+    age : stage .first .at + prefixLength m n ≡ c .now .at
+    age = eqb-true (stage .first .at + prefixLength m n) (c .now .at) (and-right (not (eqb (stage .held) 0)) _ ripe-now)
+
     pub turn-shift : Table → getD shifts n noPower ≡ power key (c .now .at - stage .first .at)
-    turn-shift table =
-        let age : stage .first .at + prefixLength m n ≡ c .now .at =
-        eqb-true (stage .first .at + prefixLength m n) (c .now .at) (and-right (not (eqb (stage .held) 0)) _ ripe-now)
-        in
-        table n (omega (arith, q .last, q .room .within)) ∙ ap (power key) (omega arith)
+    turn-shift table = table n (omega (arith, q .last, q .room .within)) ∙ ap (power key) (omega (arith, age))
 
     module _ (rest : Stage) (left : rest ≡ takeOffOf key stage) where
       abbrev shorter : Stages
@@ -262,8 +261,9 @@ module _ (c : Round) (shifts : List Power) (k n : ℕ) (before w : Walk) (pos : 
             (λ table.
             let here : stageAt shorter n ≡ stageAt (w .stages) n = stage-with-other (w .stages) i rest n (omega arith) in
             let under : n < stageCount = omega (arith, q .room .most, q .room .within) in
-            let enters : canEnter above ≡ true =
-            rw here (fit-can-enter m n t (suc t) _ (omega arith) (q .short) (q .exact table .midway .here under))
+            let enters : canEnter above (stage .first) ≡ true =
+            rw here
+            (fit-can-enter m n t (suc t) _ (omega arith) key (q .short) (stage .first) (omega (arith, age, now)) (q .exact table .midway .here under))
             in
             let full : entry ≡ record { stage = entered key above (stage .first); aside = asideOf key above (stage .first) } =
             e ∙ enter-room key above (stage .first) enters
@@ -282,16 +282,18 @@ module _ (c : Round) (shifts : List Power) (k i : ℕ) (before w : Walk) (none-l
       let same : w ≡ descended c k before = rw none-left at (x .same) in
       same ∙ ap (descended c k) (λ j. record { stages = before .stages; answer = none j })
 
-  last-enters : Exact c k i before w → canEnter (stageAt (w .stages) 0) ≡ true
-  last-enters x =
+  last-enters :
+      Exact c k i before w → (start : Mark) → c .now .at ≡ suc (start .at) → canEnter (stageAt (w .stages) 0) start ≡ true
+  last-enters x start e =
       let m : ℕ = c .signature .length in
       let t : ℕ = before-byte c in
       let midway : Midway m t 0 (w .stages) = rw none-left at (x .midway) in
-      fit-can-enter m 0 t (suc t) _ (omega arith) (q .short) (midway .here (omega arith))
+      fit-can-enter m 0 t (suc t) _ (omega arith) (c .signature .key) (q .short) start (omega arith) (midway .here (omega arith))
 
   pub turn-end :
       (Shifts (c .signature .key) (c .signature .length) shifts
-      → (w ≡ descended c k (record { stages = before .stages; answer = noAnswer })) × (canEnter (stageAt (w .stages) 0) ≡ true))
+      → (w ≡ descended c k (record { stages = before .stages; answer = noAnswer }))
+      × ((start : Mark) → c .now .at ≡ suc (start .at) → canEnter (stageAt (w .stages) 0) start ≡ true))
       × ((w .answer .asides < stageCount) × (w .answer .comparisons ≤ stageCount))
   turn-end = (
     λ table. (all-visited (q .exact table), last-enters (q .exact table)),
@@ -317,10 +319,33 @@ module _ (c : Round) (k : ℕ) (start : Mark) (stages : Stages) (w : Walk) (last
   unfolding tried
   climbed-dropped f = sym (climbed ∙ rw f)
 
-  pub climbed-promoted :
-      matches c 0 start ≡ true → promotedUnder (c .signature .key) k 0 start counted ≡ walkedFrom c start stages
-  unfolding tried
-  climbed-promoted f = sym (climbed ∙ rw (f, last))
+  module _ (match : matches c 0 start ≡ true) where
+    promoted-first : promotedUnder (c .signature .key) k 0 start counted ≡ walkedFrom c start stages
+    unfolding tried
+    promoted-first = sym (climbed ∙ rw (match, last))
+
+    -- it is rung if k = 0
+    pub climbed-rung :
+        k ≡ 0
+        → (answer : Answer)
+        → answer ≡ ringing (start .at) (compared (w .answer))
+        → record { stages = w .stages; answer = answer } ≡ walkedFrom c start stages
+    unfolding promotedUnder
+    climbed-rung z answer a = rw a (rw (eq-eqb 0 k (sym z)) at promoted-first)
+
+    -- else it enters stage 0
+    pub climbed-entered :
+        (k ≡ 0 → ⊥)
+        → canEnter (stageAt (w .stages) 0) start ≡ true
+        → (entry : Entry)
+        → entry ≡ entryOf (c .signature .key) (stageAt (w .stages) 0) start
+        → (answer : Answer)
+        → answer ≡ withAside (entry .aside) (compared (w .answer))
+        → record { stages = withStage (w .stages) 0 (entry .stage); answer = answer } ≡ walkedFrom c start stages
+    unfolding promotedUnder
+    climbed-entered n enters entry e answer a =
+        let full = e ∙ enter-room (c .signature .key) (stageAt (w .stages) 0) start enters in
+        rw (a, full, with-aside) (rw (ne-eqb 0 k (λ z. n (sym z))) at promoted-first)
 
 -- the power by which the block of one byte is cut out
 pub first-shift :

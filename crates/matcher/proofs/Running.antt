@@ -40,11 +40,11 @@ pub record Running (self : Matcher) (input : List ℕ) (from : ℕ) (w : Matcher
   pub same : scanned self (drop from input) ≡ ahead comparisons (at - from) (scanned w (drop at input))
 
 module _ (self : Matcher) (input : List ℕ) (from : ℕ) where
-  pub run-begin : matcherFits self ≡ true → self .now .at ≤ maxTaken → from ≤ length input → Running self input from self from 0
-  run-begin fits room inside =
+  pub run-begin : matcherFits self ≡ true → from ≤ length input → Running self input from self from 0
+  run-begin fits inside =
       record {
         fits = fits;
-        room = room;
+        room = sound self fits .within;
         begun = omega arith;
         within = inside;
         few = omega arith;

@@ -34,14 +34,16 @@ pub record Brings (key : Key) (since : ℕ) (w : Matcher) (byte : ℕ) (r : Turn
 pub brought :
     (powers : Powers) (since : ℕ) (w : Matcher) (byte : ℕ) (r : Turn)
     → (powers ≡ powersOf (powers .key) → Brings (powers .key) since w byte r)
+    → (r .moved ≡ false → r .stages ≡ w .stages)
     → ((key : Key) → powers ≡ powersOf key → number (r .verdict) ≡ sharedRefusal key since w)
     × (((key : Key) → powers ≡ powersOf key → r .stages ≡ sharedStages key since w byte)
-    × ((key : Key) → powers ≡ powersOf key → r .answer ≡ sharedAnswer key since w byte))
-brought powers since w byte r f =
+    × (((key : Key) → powers ≡ powersOf key → r .answer ≡ sharedAnswer key since w byte)
+    × (r .moved ≡ false → r .stages ≡ w .stages)))
+brought powers since w byte r f still =
     let under : (key : Key) → powers ≡ powersOf key → Brings key since w byte r =
     λ key e. let own : powers .key ≡ key = ap (λ (p : Powers). p .key) e in rw own at (f (e ∙ ap powersOf (sym own)))
     in
-    (λ key e. under key e .verdict, (λ key e. under key e .stages, λ key e. under key e .answer))
+    (λ key e. under key e .verdict, (λ key e. under key e .stages, (λ key e. under key e .answer, still)))
 
 module _ (key : Key) (since : ℕ) (w : Matcher) where
   -- A byte that is refused leaves the stages as they were.

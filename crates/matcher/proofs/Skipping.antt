@@ -51,9 +51,6 @@ module _ {key : Key} {first : Fingerprint} {until : ℕ} {input : List ℕ} {fro
     pub byte-inside : at < length input
     byte-inside = omega (arith, q .inside)
 
-    pub mark-below : mark .at < maxTaken
-    mark-below = omega (arith, q .room)
-
     pub fewer : end - (at + 1) < end - at
     fewer = omega arith
 

@@ -1,20 +1,21 @@
 -- What it says of a watch that it is no misfit, and what becomes of one whose byte is taken.
 -- Assumes nothing.
-use Prim.Native.Nat.{ℕ, _<_}
+use Prim.Native.Nat.{ℕ, _≤_, _<_}
 use mathlib.Core.Path.{_≡_}
-use mathlib.Core.Bool.{true, cond}
+use mathlib.Core.Bool.{true}
 use mathlib.Core.List.{[], _∷_}
 use native.Mathlib.Omega.{arith}
-use lib.Dec.{eqb}
-use borrow.Author.Tests.{eqb-true}
-use Rattle.fingerprint.specs.Fingerprint.{Below, printFits, same, empty}
-use Rattle.fingerprint.proofs.Laws.{same-eq, eq-same, fits-below, below-fits}
+use lib.Dec.{ltb}
+use borrow.Author.Tests.{ltb-true}
+use Rattle.fingerprint.specs.Fingerprint.{Below, empty}
 use Rattle.lists.proofs.Laws.{every-at, every-intro}
 use Rattle.lists.proofs.Cases.{by-test, each}
 use Rattle.signature.specs.Signature.{signatureFits}
 use Rattle.signature.proofs.Card.{SoundCard, sound-card}
+use Rattle.stage.specs.Stage.{maxTaken, nowFits}
 use Rattle.stage.specs.Stages.{stageCount, stageAt, stagesFit}
 use Rattle.stage.proofs.Fit.{Fit, fit-of, fits-of}
+use Rattle.stage.proofs.Now.{SoundNow, sound-now, now-fits}
 use Rattle.matcher.specs.declared.Matcher.{Matcher}
 use Rattle.matcher.specs.Matcher.{matcherFits, moved}
 use Rattle.matcher.specs.Stroke.{nextMark, walked, strokeRefusal, strokeAnswer, afterStroke}
@@ -22,6 +23,7 @@ use Rattle.matcher.specs.Stroke.{nextMark, walked, strokeRefusal, stroke
 -- What a watch that is no misfit says of itself.
 pub record Sound (w : Matcher) : Type 0 where
   pub card : signatureFits (w .signature) ≡ true
+  pub within : w .now .at ≤ maxTaken
   pub print : Below (w .now .print)
   pub starts : w .now .at ≡ 0 → w .now .print ≡ empty
   pub stage : (i : ℕ) → i < stageCount → Fit (w .signature .length) i (w .now .at) (w .now .at) (stageAt (w .stages) i)
@@ -31,17 +33,16 @@ unfolding matcherFits
 sound w e =
     let q =
     each (signatureFits (w .signature))
-    (printFits (w .now .print)
-    ∷ cond (eqb (w .now .at) 0) (same (w .now .print) empty) true
-    ∷ stagesFit (w .signature .length) (w .now .at) (w .stages)
-    ∷ [])
+    (nowFits (w .now) ∷ stagesFit (w .signature .length) (w .now .at) (w .stages) ∷ [])
     e
     in
+    let n : SoundNow (w .now) = sound-now _ (q .1 .0) in
     record {
       card = q .0;
-      print = fits-below _ (q .1 .0);
-      starts = λ z. same-eq _ _ (rw z at (q .1 .1 .0));
-      stage = λ i l. fit-of _ i _ _ (every-at _ stageCount (q .1 .1 .1 .0) i l);
+      within = n .within;
+      print = n .print;
+      starts = n .starts;
+      stage = λ i l. fit-of _ i _ _ (every-at _ stageCount (q .1 .1 .0) i l);
     }
 
 -- What its card says of itself.
@@ -54,12 +55,21 @@ stages-fit w q = every-intro _ stageCount (λ i l. fits-of _ i _ _ (q .stage i l
 pub sound-fits : (w : Matcher) → Sound w → matcherFits w ≡ true
 unfolding matcherFits
 sound-fits w q =
-    rw (q .card, below-fits _ (q .print), stages-fit w q)
-    (by-test (eqb (w .now .at) 0) (λ e. rw (e, eq-same (w .now .print) empty (q .starts (eqb-true _ _ e)))) (λ e. rw e))
+    rw (
+      q .card,
+      now-fits (w .now) (record { within = q .within; print = q .print; starts = q .starts }),
+      stages-fit w q,
+    )
 
 pub taken-fits : (w : Matcher) → strokeRefusal w ≡ 0 → matcherFits w ≡ true
 taken-fits w e =
     by-test (matcherFits w) (λ f. f) (λ f. absurd (let ten : _≡_ {A = ℕ} 10 0 = rw f at e in omega arith))
+
+-- a byte is taken below the limit
+pub taken-below : (w : Matcher) → strokeRefusal w ≡ 0 → w .now .at < maxTaken
+taken-below w e =
+    by-test (ltb (w .now .at) maxTaken) (λ l. ltb-true _ _ l)
+    (λ l. absurd (let six : _≡_ {A = ℕ} 6 0 = rw (taken-fits w e, l) at e in omega arith))
 
 pub after-taken :
     (w : Matcher) (b : ℕ)

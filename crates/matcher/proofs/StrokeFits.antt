@@ -26,7 +26,7 @@ use Rattle.matcher.specs.declared.Walk.{Walk}
 use Rattle.matcher.specs.declared.Round.{Round}
 use Rattle.matcher.specs.Matcher.{matcherFits}
 use Rattle.matcher.specs.Stroke.{nextMark, noAnswer, promoted, promotedUnder, matches, tried, ripe, visited, descended, walkedFrom, walked, strokeRefusal, afterStroke}
-use Rattle.matcher.proofs.Sound.{Sound, sound, sound-fits, card-of, taken-fits, after-taken}
+use Rattle.matcher.proofs.Sound.{Sound, sound, sound-fits, card-of, taken-fits, taken-below, after-taken}
 
 -- Before stage i - 1 is visited: the stages above i are done, stage i has lost its ripe start, and those below are as before the byte.
 pub record Midway (m t i : ℕ) (l : Stages) : Type 0 where
@@ -193,6 +193,7 @@ stroke-fits w b e =
     rw (after-taken w b e)
     (sound-fits _ (record {
       card = q .card;
+      within = taken-below w e;
       print = pushed-below (w .signature .key) (w .now .print) b;
       starts = λ z. absurd (omega arith);
       stage = walked-fit w b q;

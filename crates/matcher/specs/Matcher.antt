@@ -1,22 +1,18 @@
 -- A watch, and when it misfits (document 01, "Ladder" and "Misfit").
 use Prim.Native.Nat.{ℕ}
-use mathlib.Core.Bool.{Bool, true, cond, _&&_}
+use mathlib.Core.Bool.{Bool, cond, _&&_}
 use lib.Dec.{eqb}
-use Rattle.fingerprint.specs.Fingerprint.{printFits, same, empty}
 use Rattle.signature.specs.declared.Signature.{Signature}
 use Rattle.signature.specs.Signature.{signatureFits, noSignature}
 use Rattle.stage.specs.declared.Mark.{Mark}
-use Rattle.stage.specs.Stage.{origin}
+use Rattle.stage.specs.Stage.{origin, nowFits}
 use Rattle.stage.specs.Stages.{Stages, noStages, stagesFit}
 use Rattle.matcher.specs.declared.Matcher.{Matcher}
 
--- A watch is no misfit: its card is none, F_t is a fingerprint and 0 at t = 0, and each stage fits.
+-- A watch is no misfit: its card is none, nor t with F_t, and each stage fits.
 unfoldable pub matcherFits : Matcher → Bool
 matcherFits w =
-    signatureFits (w .signature)
-    && printFits (w .now .print)
-    && cond (eqb (w .now .at) 0) (same (w .now .print) empty) true
-    && stagesFit (w .signature .length) (w .now .at) (w .stages)
+    signatureFits (w .signature) && nowFits (w .now) && stagesFit (w .signature .length) (w .now .at) (w .stages)
 
 -- "A fresh one has t = 0, F_t = 0 and nothing listed": 10 for a card that misfits.
 abbrev pub freshRefusal : Signature → ℕ

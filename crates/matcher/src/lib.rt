@@ -1,6 +1,6 @@
 // The streaming matcher (document 01, "Ladder"): a watch in a few hundred bytes, and its answer to each byte.
 ghost use mathlib.Core.Path.{_≡_};
-ghost use mathlib.Core.Bool.{true, not};
+ghost use mathlib.Core.Bool.{true, false, not, _&&_};
 ghost use Prim.Native.Nat.{_+_, _-_, _≤_, _<_, suc, min};
 ghost use lib.ListN.{length, drop};
 ghost use Rattle.fingerprint.specs.declared.Key.{Key};
@@ -10,7 +10,7 @@ ghost use Rattle.refusal.specs.declared.Verdict.the-variants.{Accepted, Refused
 ghost use Rattle.refusal.specs.Number.{number};
 ghost use Rattle.signature.specs.Signature.{maxLength};
 ghost use Rattle.stage.specs.Stage.{maxTaken, gapTo, canEnter};
-ghost use Rattle.stage.specs.Stages.{stageCount, stagesFit, stageAt};
+ghost use Rattle.stage.specs.Stages.{stageCount, stagesFit, stageAt, allFrom};
 ghost use Rattle.matcher.specs.Matcher.{matcherFits, freshRefusal, fresh, blank, moved, noMatcher};
 ghost use Rattle.matcher.specs.Stroke.{noAnswer, compared, ringing, withAside, promotedUnder, descended, walkedFrom, nextMark, strokeRefusal, strokeAnswer, afterStroke};
 ghost use Rattle.matcher.specs.Scan.{silent, scanned, scanOf};
@@ -42,7 +42,7 @@ pub struct Matcher {
 // Whether a start rang, and which.
 pub enum Ring {
     Silent,
-    At(u32),
+    At(u64),
 }
 
 // The answer to a byte: the ring; the sets set aside, highest stage first, as many as `asides` says; the number of comparisons.
@@ -82,11 +82,18 @@ pub struct Powers {
     squares: [Power; PLACES],
 }
 
-// What one byte brings to a watch that shares t and F_t with others: its stages then, and the answer.
+// What one byte brings to a watch that shares t and F_t with others: whether its stages were visited, the stages then, and the answer.
 pub struct Turn {
     pub verdict: Verdict,
+    pub moved: bool,
     pub stages: [Stage; STAGES],
     pub answer: Answer,
+}
+
+// What is seen of a watch that shares t with others: whether it is no misfit, and, if so, a t up to which no start becomes ripe.
+pub struct Judged {
+    pub ok: bool,
+    pub until: u64,
 }
 
 // A card and the mark of t and F_t: what stays the same while the stages are visited.
@@ -113,9 +120,9 @@ fn next_mark(key: Key, now: Mark, byte: u8) -> Mark
 }
 
 // A t up to which no start becomes ripe.
-fn quiet_until(stages: [Stage; STAGES], m: u32) -> u32
+fn quiet_until(stages: [Stage; STAGES], m: u32) -> u64
     requires { ⌜ (1 ≤ m) × (m ≤ maxLength) ⌝ }
-    ensures { λ t. ⌜ Unripe (levels m) m t stages ⌝ }
+    ensures { λ t. ⌜ (t ≤ maxTaken) × Unripe (levels m) m t stages ⌝ }
 {
     let k = signature::levels(m);
     let mut until = MAX_TAKEN;
@@ -126,6 +133,34 @@ fn quiet_until(stages: [Stage; STAGES], m: u32) -> u32
         i = i + 1;
     }
     until
+}
+
+// Whether each stage of a watch over m bytes fits at t and lists no start below a count, and the same t, in one pass.
+fn judge(stages: [Stage; STAGES], m: u32, t: u64, since: u64) -> Judged
+    requires { ⌜ (1 ≤ m) × (m ≤ maxLength) ⌝ }
+    ensures ok { λ r. ⌜ r .ok ≡ (stagesFit m t stages && allFrom since stages) ⌝ }
+    ensures until { λ r. ⌜ (r .ok ≡ true → Unripe (levels m) m (r .until) stages) ⌝ }
+{
+    let mut until = MAX_TAKEN;
+    let mut at: u32 = 0;
+    while (at as usize) < STAGES {
+        let stage = stages[at as usize];
+        if !stage.fits(m, at, t) {
+            return Judged {
+                ok: false,
+                until: 0,
+            };
+        }
+        if !stage.listed_from(since) {
+            return Judged {
+                ok: false,
+                until: 0,
+            };
+        }
+        until = stage.quiet_until(m, at + 1, until);
+        at = at + 1;
+    }
+    Judged { ok: true, until }
 }
 
 impl Answer {
@@ -161,7 +196,7 @@ impl Answer {
         self
     }
 
-    fn with_ring(self, start: u32) -> Answer
+    fn with_ring(self, start: u64) -> Answer
         ensures { λ a. ⌜ a ≡ ringing start self ⌝ }
     {
         Answer {
@@ -189,31 +224,6 @@ fn matches(shift: Power, start: Mark, now: Mark, print: Fingerprint) -> bool
     let front = start.print;
     let block = now.print.cut_by(front, shift);
     block.equals(print)
-}
-
-// A start whose byte is P_0 is rung if k = 0, else it enters stage 0.
-fn admit(key: Key, k: u32, start: Mark, w: Walk) -> Walk
-    requires { ⌜ w .answer .asides < stageCount ⌝ }
-    ensures { λ r. ⌜ (canEnter (stageAt (w .stages) 0) ≡ true → r ≡ promotedUnder key k 0 start w) ⌝ }
-{
-    let answer = w.answer;
-    if k == 0 {
-        let stages = w.stages;
-        return Walk {
-            stages,
-            answer: answer.with_ring(start.at),
-        };
-    }
-    let mut stages = w.stages;
-    let s = stages[0];
-    let e = s.enter(key, start);
-    let stage = e.stage;
-    let aside = e.aside;
-    stages[0] = stage;
-    Walk {
-        stages,
-        answer: answer.with(aside),
-    }
 }
 
 // r to |P_i| for each tested beginning P_0 .. P_k of m bytes.
@@ -286,14 +296,15 @@ impl Powers {
     }
 }
 
-// One byte's walk over the stages, from the highest down: a ripe start is taken off and compared; on a match it rings or enters the stage
-// above. It is the ladder's walk where `shifts` are the powers of the card's key; no number leaves its range whatever they are.
-fn descend(c: Round, k: u32, shifts: [Power; PLACES], before: [Stage; STAGES]) -> Walk
-    requires { ⌜ (c .signature .length ≤ maxLength) × (k ≡ levels (c .signature .length)) × (1 ≤ c .now .at) × (stagesFit (c .signature .length) (c .now .at - 1) before ≡ true) ⌝ }
-    ensures { λ r. ⌜ (Shifts (c .signature .key) (c .signature .length) shifts → (r ≡ descended c k (record { stages = before; answer = noAnswer })) × (canEnter (stageAt (r .stages) 0) ≡ true)) ⌝ }
-    ensures { λ r. ⌜ (r .answer .asides < stageCount) × (r .answer .comparisons ≤ stageCount) ⌝ }
+// One byte's walk. The stages are visited from the highest down: a ripe start is taken off and compared; on a match it rings or enters the stage
+// above. Then the start before the byte is compared with P_0. It is the ladder's walk where `shifts` are the powers of the card's key; no number
+// leaves its range whatever they are. (One function: each hand-over of a walk copies it.)
+fn climb(c: Round, shifts: [Power; PLACES], start: Mark, before: [Stage; STAGES]) -> Walk
+    requires { ⌜ (1 ≤ c .signature .length) × (c .signature .length ≤ maxLength) × (c .now .at ≡ suc (start .at)) × (c .now .at ≤ maxTaken) × (stagesFit (c .signature .length) (start .at) before ≡ true) ⌝ }
+    ensures { λ r. ⌜ (Shifts (c .signature .key) (c .signature .length) shifts → r ≡ walkedFrom c start before) ⌝ }
 {
     let m = c.signature.length;
+    let k = signature::levels(m);
     let key = c.signature.key;
     let prints = c.signature.prints;
     let now = c.now;
@@ -325,31 +336,26 @@ fn descend(c: Round, k: u32, shifts: [Power; PLACES], before: [Stage; STAGES]) -
             }
         }
     }
-    w
-}
-
-// One byte's walk: the stages, and then the start before the byte, which is compared with P_0.
-fn climb(c: Round, shifts: [Power; PLACES], start: Mark, before: [Stage; STAGES]) -> Walk
-    requires { ⌜ (1 ≤ c .signature .length) × (c .signature .length ≤ maxLength) × (c .now .at ≡ suc (start .at)) × (stagesFit (c .signature .length) (start .at) before ≡ true) ⌝ }
-    ensures { λ r. ⌜ (Shifts (c .signature .key) (c .signature .length) shifts → r ≡ walkedFrom c start before) ⌝ }
-{
-    let k = signature::levels(c.signature.length);
-    let walk = descend(c, k, shifts, before);
-    let stages = walk.stages;
-    let mut answer = walk.answer;
-    answer.comparisons = answer.comparisons + 1;
-    let w = Walk { stages, answer };
-    let shift = shifts[0];
-    let prints = c.signature.prints;
-    let print = prints[0];
-    if matches(shift, start, c.now, print) {
-        return admit(c.signature.key, k, start, w);
+    w.answer.comparisons = w.answer.comparisons + 1;
+    if !matches(shifts[0], start, now, prints[0]) {
+        return w;
+    }
+    if k == 0 {
+        w.answer = w.answer.with_ring(start.at);
+        return w;
+    }
+    let e = w.stages[0].enter(key, start);
+    let aside = e.aside;
+    let stage = e.stage;
+    w.stages[0] = stage;
+    if let Aside::Set(_) = aside {
+        w.answer = w.answer.with(aside);
     }
     w
 }
 
 // The place `most` behind `from`, or the end if that comes first.
-fn reach(end: usize, from: usize, most: u32) -> usize
+fn reach(end: usize, from: usize, most: u64) -> usize
     requires { ⌜ from ≤ end ⌝ }
     ensures { λ n. ⌜ n ≡ from + min most (end - from) ⌝ }
 {
@@ -359,23 +365,34 @@ fn reach(end: usize, from: usize, most: u32) -> usize
     from + (most as usize)
 }
 
+// The mark so many bytes behind another, with its print.
+fn behind(start: Mark, bytes: usize, print: Fingerprint) -> Mark
+    requires { ⌜ start .at + bytes ≤ maxTaken ⌝ }
+    ensures { λ r. ⌜ r ≡ record { at = start .at + bytes; print = print } ⌝ }
+{
+    Mark {
+        at: start.at + (bytes as u64),
+        print,
+    }
+}
+
 // t and F_t behind the bytes that are passed over: until t is `until`, a byte is P_0, or none is left.
-fn skip(key: Key, first: Fingerprint, until: u32, start: Mark, input: &[u8], from: usize) -> Mark
-    requires { ⌜ from ≤ length (now input) ⌝ }
+fn skip(key: Key, first: Fingerprint, until: u64, start: Mark, input: &[u8], from: usize) -> Mark
+    requires { ⌜ (from ≤ length (now input)) × (until ≤ maxTaken) × (start .at ≤ maxTaken) ⌝ }
     ensures { λ r. ⌜ r ≡ skipped key first (min (until - start .at) (length (now (input .entry)) - from)) start (drop from (now (input .entry))) ⌝ }
 {
     let end = reach(input.len(), from, stage::distance(start.at, until));
     let mut at = from;
-    let mut mark = start;
+    let mut print = start.print;
     while at < end {
         let byte = input[at];
         if first.equals(Fingerprint::of_byte(byte)) {
-            return mark;
+            return behind(start, at - from, print);
         }
-        mark = next_mark(key, mark, byte);
+        print = print.push(key, byte);
         at = at + 1;
     }
-    mark
+    behind(start, at - from, print)
 }
 
 impl Turn {
@@ -385,6 +402,7 @@ impl Turn {
     {
         Turn {
             verdict: Verdict::Refused(refusal),
+            moved: false,
             stages,
             answer: Answer::none(),
         }
@@ -398,6 +416,7 @@ impl Turn {
         answer.comparisons = 1;
         Turn {
             verdict: Verdict::Accepted,
+            moved: false,
             stages,
             answer,
         }
@@ -405,43 +424,47 @@ impl Turn {
 }
 
 impl Matcher {
-    // Whether a watch that shares the key and t, since a count, is no misfit.
-    fn shared_fits(self, key: Key, since: u32) -> bool
-        ensures { λ ok. ⌜ ok ≡ sharedFits key since self ⌝ }
+    // Whether a watch that shares the key and t, since a count, is no misfit, and the t up to which it is quiet.
+    fn shared_fits(self, key: Key, since: u64) -> Judged
+        ensures ok { λ r. ⌜ r .ok ≡ sharedFits key since self ⌝ }
+        ensures until { λ r. ⌜ (r .ok ≡ true → Unripe (levels (self .signature .length)) (self .signature .length) (r .until) (self .stages)) ⌝ }
     {
         let signature = self.signature;
         let mark = self.now;
         let own = signature.key;
+        let misfit = Judged {
+            ok: false,
+            until: 0,
+        };
         if !own.equals(key) {
-            return false;
+            return misfit;
         }
         if mark.at < since {
-            return false;
+            return misfit;
         }
         if !signature.fits() {
-            return false;
+            return misfit;
         }
-        if !mark.print.fits() {
-            return false;
-        }
-        if !signature::running_fits(mark.at, mark.print) {
-            return false;
+        if !mark.fits() {
+            return misfit;
         }
         let stages = self.stages;
-        stage::stages_fit_from(stages, signature.length, mark.at, since)
+        judge(stages, signature.length, mark.at, since)
     }
 
     // Takes one byte of the stream, for a watch that shares key, t and F_t with others since a count. Refusals: 10 misfit, also for a card
     // with another key, a count above t and a start below it; 6 spent. What is said of powers holds of those of any key, so of all there are.
-    pub fn stroke_shared(self, powers: Powers, since: u32, byte: u8) -> Turn
+    pub fn stroke_shared(self, powers: Powers, since: u64, byte: u8) -> Turn
         ensures verdict { λ r. ⌜ ((key : Key) → powers ≡ powersOf key → number (r .verdict) ≡ sharedRefusal key since self) ⌝ }
         ensures stages { λ r. ⌜ ((key : Key) → powers ≡ powersOf key → r .stages ≡ sharedStages key since self byte) ⌝ }
         ensures answer { λ r. ⌜ ((key : Key) → powers ≡ powersOf key → r .answer ≡ sharedAnswer key since self byte) ⌝ }
+        ensures moved { λ r. ⌜ (r .moved ≡ false → r .stages ≡ self .stages) ⌝ }
     {
         let signature = self.signature;
         let start = self.now;
         let before = self.stages;
-        if !self.shared_fits(powers.key, since) {
+        let judged = self.shared_fits(powers.key, since);
+        if !judged.ok {
             return Turn::refused(Refusal::Misfit, before);
         }
         if MAX_TAKEN <= start.at {
@@ -450,7 +473,7 @@ impl Matcher {
         let now = next_mark(signature.key, start, byte);
         let first = signature.prints[0];
         if !first.equals(Fingerprint::of_byte(byte)) {
-            if now.at <= quiet_until(before, signature.length) {
+            if now.at <= judged.until {
                 return Turn::quiet(before);
             }
         }
@@ -460,6 +483,7 @@ impl Matcher {
         let answer = w.answer;
         Turn {
             verdict: Verdict::Accepted,
+            moved: true,
             stages,
             answer,
         }
@@ -491,10 +515,7 @@ impl Matcher {
         if !signature.fits() {
             return false;
         }
-        if !now.print.fits() {
-            return false;
-        }
-        if !signature::running_fits(now.at, now.print) {
+        if !now.fits() {
             return false;
         }
         let stages = self.stages;
@@ -602,7 +623,7 @@ impl Matcher {
             let skipped = stage::distance(now.at, start.at);
             now = start;
             at = at + (skipped as usize);
-            comparisons = comparisons + (skipped as u64);
+            comparisons = comparisons + skipped;
             if at < input.len() {
                 if MAX_TAKEN <= start.at {
                     let matcher = self.moved(now, stages);

@@ -1,12 +1,12 @@
 -- A rack and when it misfits; putting a card in, taking one out, and a stroke (document 02, A.1).
 use Prim.Native.Nat.{ℕ, zero, suc, _+_, _-_}
-use mathlib.Core.Bool.{Bool, true, cond, not, _&&_, _||_}
+use mathlib.Core.Bool.{Bool, cond, not, _&&_, _||_}
 use mathlib.Core.List.{List, [], _∷_, _++_, map}
 use lib.ListN.{length, getD, set, replicate}
 use lib.Dec.{leb, ltb, eqb}
 use Rattle.fingerprint.specs.declared.Key.{Key}
 use Rattle.fingerprint.specs.declared.Fingerprint.{Fingerprint}
-use Rattle.fingerprint.specs.Fingerprint.{keyFits, sameKey, noKey, printFits, same, empty}
+use Rattle.fingerprint.specs.Fingerprint.{keyFits, sameKey, noKey, same, empty}
 use Rattle.lists.specs.Lists.{every, tabulate, chosen}
 use Rattle.signature.specs.declared.Signature.{Signature}
 use Rattle.signature.specs.Signature.{places, noSignature, signatureFits}
@@ -15,7 +15,7 @@ use Rattle.stage.specs.declared.Stage.{Stage}
 use Rattle.matcher.specs.declared.Matcher.{Matcher}
 use Rattle.matcher.specs.declared.Ring.{Ring}
 use Rattle.matcher.specs.declared.Ring.the-variants.{Silent, At}
-use Rattle.stage.specs.Stage.{maxTaken, origin, noneFits}
+use Rattle.stage.specs.Stage.{maxTaken, origin, nowFits, noneFits}
 use Rattle.stage.specs.Stages.{stageCount, Stages, stageAt, noStages, stagesFit}
 pub use Rattle.stage.specs.Stages.{listedFrom, allFrom}
 use Rattle.matcher.specs.Stroke.{nextMark, noAnswer, strokeAnswer, afterStroke}
@@ -91,8 +91,7 @@ placeAt r i = getD (r .places) i nowhere
 unfoldable pub rackFits : Rack → Bool
 rackFits r =
     keyFits (r .key)
-    && printFits (r .now .print)
-    && cond (eqb (r .now .at) 0) (same (r .now .print) empty) true
+    && nowFits (r .now)
     && placesFit (r .key) (r .now .at) (r .places)
     && namesApart (r .places)
 

@@ -7,7 +7,7 @@ use native.Mathlib.Omega.{arith}
 use lib.ListN.{length-replicate, getD-replicate}
 use Rattle.fingerprint.specs.declared.Key.{Key}
 use Rattle.fingerprint.specs.Fingerprint.{keyFits, noKey, empty}
-use Rattle.fingerprint.proofs.Laws.{same-self, same-key-self, empty-below, below-fits}
+use Rattle.fingerprint.proofs.Laws.{same-self, same-key-self, empty-below}
 use Rattle.lists.proofs.Laws.{every-intro}
 use Rattle.lists.proofs.Cases.{by-test}
 use Rattle.signature.specs.Signature.{places, noSignature}
@@ -54,8 +54,7 @@ module _ (key : Key) where
   empty-sound e =
       record {
         key = e;
-        print = below-fits empty empty-below;
-        starts = λ z. refl;
+        now = record { within = omega arith; print = empty-below; starts = λ z. refl };
         free = λ i l f. rw (begun-at i l) clear-none;
         used = λ i l f. absurd (true≢false (sym (ap isFree (begun-at i l)) ∙ f));
         apart = λ i j b l. rw (begun-at i l);

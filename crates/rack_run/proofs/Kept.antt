@@ -7,7 +7,7 @@ use native.Mathlib.Decide.{ℕ-discrete}
 use native.Mathlib.Omega.{arith}
 use lib.ListN.{length-set}
 use borrow.Author.Tests.{ne-eqb}
-use Rattle.fingerprint.proofs.Laws.{below-fits, pushed-below}
+use Rattle.fingerprint.proofs.Laws.{pushed-below}
 use Rattle.lists.proofs.Laws.{every-intro, length-tabulate}
 use Rattle.lists.proofs.Cases.{by-test}
 use Rattle.signature.specs.declared.Signature.{Signature}
@@ -91,8 +91,7 @@ module _ (r : Rack) (typed : Typed r) (i : ℕ) (small : i < rackPlaces) (p : Pl
   with-sound q free used alone =
       record {
         key = q .key;
-        print = q .print;
-        starts = q .starts;
+        now = q .now;
         free = λ j b. elim (ℕ-discrete j i) [ yes e ↦ rw (e, here) free | no n ↦ rw (there j n) (q .free j b) ];
         used = λ j b. elim (ℕ-discrete j i) [ yes e ↦ rw (e, here) used | no n ↦ rw (there j n) (q .used j b) ];
         apart =
@@ -164,8 +163,7 @@ module _ (r : Rack) (byte : ℕ) (ok : rackStrokeRefusal r ≡ 0) where
       (rack-sound (struckRack r byte)
       (record {
         key = q .key;
-        print = below-fits _ (pushed-below (r .key) (r .now .print) byte);
-        starts = λ z. absurd (omega arith);
+        now = record { within = room; print = pushed-below (r .key) (r .now .print) byte; starts = λ z. absurd (omega arith) };
         free =
             λ i l.
             rw (struck-at (r .now) byte (r .places) i l, struck-free (r .now) byte (placeAt r i))

@@ -2,17 +2,19 @@
 -- Assumes nothing.
 use Prim.Native.Nat.{ℕ, _≤_, _<_}
 use mathlib.Core.Path.{_≡_}
-use mathlib.Core.Bool.{true, false, cond}
+use mathlib.Core.Bool.{true, false}
 use mathlib.Core.List.{[], _∷_}
-use lib.Dec.{leb, eqb}
-use borrow.Author.Tests.{eqb-true, leb-true, le-leb}
+use lib.Dec.{leb}
+use borrow.Author.Tests.{leb-true, le-leb}
 use Rattle.fingerprint.specs.declared.Key.{Key}
-use Rattle.fingerprint.specs.Fingerprint.{keyFits, sameKey, printFits, same, empty}
-use Rattle.fingerprint.proofs.Laws.{same-eq, eq-same, same-key-eq}
+use Rattle.fingerprint.specs.Fingerprint.{keyFits, sameKey}
+use Rattle.fingerprint.proofs.Laws.{same-key-eq}
 use Rattle.lists.proofs.Laws.{every-at, every-intro}
 use Rattle.lists.proofs.Cases.{by-test, each}
 use Rattle.signature.specs.Signature.{signatureFits}
+use Rattle.stage.specs.Stage.{nowFits}
 use Rattle.stage.specs.Stages.{stagesFit}
+use Rattle.stage.proofs.Now.{SoundNow, sound-now, now-fits}
 use Rattle.rack.specs.declared.Place.{Place}
 use Rattle.rack.specs.declared.Rack.{Rack}
 use Rattle.rack.specs.Rack.{
@@ -40,8 +42,7 @@ pub record SoundPlace (key : Key) (t : ℕ) (p : Place) : Type 0 where
 -- What a rack that is no misfit says of itself.
 pub record SoundRack (r : Rack) : Type 0 where
   pub key : keyFits (r .key) ≡ true
-  pub print : printFits (r .now .print) ≡ true
-  pub starts : r .now .at ≡ 0 → r .now .print ≡ empty
+  pub now : SoundNow (r .now)
   pub free : (i : ℕ) → i < rackPlaces → isFree (placeAt r i) ≡ true → isClear (placeAt r i) ≡ true
   pub used : (i : ℕ) → i < rackPlaces → isFree (placeAt r i) ≡ false → SoundPlace (r .key) (r .now .at) (placeAt r i)
   pub apart : (i j : ℕ) → j < i → i < rackPlaces → apart (placeAt r i) (placeAt r j) ≡ true
@@ -84,21 +85,16 @@ unfolding rackFits
 sound-rack r e =
     let q =
     each (keyFits (r .key))
-    (printFits (r .now .print)
-    ∷ cond (eqb (r .now .at) 0) (same (r .now .print) empty) true
-    ∷ placesFit (r .key) (r .now .at) (r .places)
-    ∷ namesApart (r .places)
-    ∷ [])
+    (nowFits (r .now) ∷ placesFit (r .key) (r .now .at) (r .places) ∷ namesApart (r .places) ∷ [])
     e
     in
-    let place : (i : ℕ) → i < rackPlaces → placeFits (r .key) (r .now .at) (placeAt r i) ≡ true = every-at _ rackPlaces (q .1 .1 .1 .0) in
+    let place : (i : ℕ) → i < rackPlaces → placeFits (r .key) (r .now .at) (placeAt r i) ≡ true = every-at _ rackPlaces (q .1 .1 .0) in
     record {
       key = q .0;
-      print = q .1 .0;
-      starts = λ z. same-eq _ _ (rw z at (q .1 .1 .0));
+      now = sound-now _ (q .1 .0);
       free = λ i l f. rw f at (place i l);
       used = λ i l f. sound-place (r .key) (r .now .at) (placeAt r i) (rw f at (place i l));
-      apart = λ i j b l. every-at _ i (every-at _ rackPlaces (q .1 .1 .1 .1 .0) i l) j b;
+      apart = λ i j b l. every-at _ i (every-at _ rackPlaces (q .1 .1 .1 .0) i l) j b;
     }
 
 pub rack-sound : (r : Rack) → SoundRack r → rackFits r ≡ true
@@ -109,5 +105,4 @@ rack-sound r q =
     by-test (isFree (placeAt r i)) (λ f. rw f (q .free i l f))
     (λ f. rw f (place-sound (r .key) (r .now .at) (placeAt r i) (q .used i l f)))
     in
-    rw (q .key, q .print, every-intro _ rackPlaces place, names-apart r q)
-    (by-test (eqb (r .now .at) 0) (λ e. rw (e, eq-same (r .now .print) empty (q .starts (eqb-true _ _ e)))) (λ e. rw e))
+    rw (q .key, now-fits _ (q .now), every-intro _ rackPlaces place, names-apart r q)

@@ -10,7 +10,7 @@ use lib.Dec.{eqb}
 use lib.ListN.{length, length-append}
 use borrow.Author.Tests.{eqb-true, eqb-false}
 use Rattle.fingerprint.specs.declared.Key.{Key}
-use Rattle.fingerprint.proofs.Laws.{same-key-eq, fits-below}
+use Rattle.fingerprint.proofs.Laws.{same-key-eq}
 use Rattle.lists.proofs.Cases.{by-test}
 use Rattle.signature.specs.declared.Signature.{Signature}
 use Rattle.stage.specs.declared.Mark.{Mark}
@@ -97,7 +97,7 @@ module _ (key : Key) (s : Standing) (l : Ledger) (q : Follows key s l) where
         let fine = puts-in r name card ok in
         let sound = sound-rack r (q .fits) in
         tracks-begun next (l .bytes) name card
-        (rw same-now (record { print = fits-below _ (sound .print); starts = sound .starts }))
+        (rw same-now (record { print = sound .now .print; starts = sound .now .starts }))
         (rw same-now (q .count)) (fine .card-fits) (same-key-eq _ _ (fine .keyed) ∙ sym same-key)
         (ap (watchAt (next .now)) (put-in-place r name card (q .typed) ok))
 

@@ -5,7 +5,6 @@ use mathlib.Core.Path.{_≡_}
 use mathlib.Core.Bool.{true, false}
 use native.Mathlib.Omega.{arith}
 use borrow.Author.Tests.{lt-ltb}
-use Rattle.fingerprint.proofs.Laws.{fits-below}
 use Rattle.ladder.proofs.Levels.{levels-bound}
 use Rattle.lists.proofs.Laws.{every-at}
 use Rattle.signature.proofs.Card.{sound-card}
@@ -32,8 +31,9 @@ module _ (r : Rack) (q : SoundRack r) (p : Place) (own : SoundPlace (r .key) (r 
       sound-fits watch
       (record {
         card = own .card;
-        print = fits-below _ (q .print);
-        starts = q .starts;
+        within = q .now .within;
+        print = q .now .print;
+        starts = q .now .starts;
         stage = λ i l. fit-of _ i _ _ (every-at _ stageCount (own .stages) i l);
       })
 

@@ -23,7 +23,7 @@ const TOP_NAME: u16 = 100;
 const MODULUS: u64 = 1000003;
 
 // Chunks of 65,536 bytes that hold more than a stream may.
-const CHUNKS: u32 = 65537;
+const CHUNKS: u32 = 16777217;
 
 // What stands before the stream: whether lone watches are wanted, the cards, and how many bytes it takes; whether it could be read.
 struct Front {
@@ -159,7 +159,7 @@ impl Sums {
         if let Ring::At(start) = ring {
             return Sums {
                 rings: std::num::wrapping_add_u64(self.rings, 1),
-                starts: (self.starts % MODULUS + start as u64) % MODULUS,
+                starts: (self.starts % MODULUS + start % MODULUS) % MODULUS,
                 ..self
             };
         }

@@ -39,8 +39,13 @@ pub(crate) fn sum(a: u32, b: u32) -> u32 {
 }
 
 // The difference of two numbers, 0 where the second is larger.
-pub(crate) fn less(a: u32, b: u32) -> u32 {
+pub(crate) fn less(a: u64, b: u64) -> u64 {
     if b <= a { a - b } else { 0 }
+}
+
+// A number with 64 bits.
+pub(crate) fn long(n: u32) -> u64 {
+    n as u64
 }
 
 // A place as a number of 32 bits.

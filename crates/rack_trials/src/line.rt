@@ -1,11 +1,14 @@
 // A rack on its line, beside the lone watches: each call is made on both, and what the rack says is held against what they say.
 use crate::bytes::front;
+use crate::bytes::less;
+use crate::bytes::long;
 use crate::bytes::plus;
 use crate::bytes::put;
 use crate::bytes::sum;
 use crate::cards::card_of;
 use crate::cards::passage_of;
 use crate::judge::judge;
+use crate::judge::lowered;
 use crate::lone::Lone;
 use crate::lone::MANY;
 use crate::lone::absent;
@@ -17,7 +20,9 @@ use crate::lone::number_of;
 use crate::lone::ring_number;
 use crate::lone::says;
 use crate::numbers::is_no_report;
+use crate::numbers::is_nothing;
 use crate::numbers::same_rack;
+use crate::numbers::since_of;
 use crate::print::say;
 use crate::print::words;
 use crate::tally::COMPARISONS;
@@ -26,6 +31,7 @@ use crate::tally::add;
 use crate::tally::expect;
 use crate::tally::meet;
 use crate::tally::mix;
+use fingerprint::Fingerprint;
 use fingerprint::Key;
 use matcher::Answer;
 use matcher::Ring;
@@ -34,33 +40,51 @@ use rack::Rack;
 use rack::Report;
 use rack::Reports;
 use rack::Struck;
+use stage::Mark;
 use stage::Progression;
 
 // The longest stream.
 pub const STREAM: usize = 384;
 
+// The last t.
+const LAST_T: u64 = 1099511627775;
+
 // Where starts that were set aside are marked, for each name.
 pub const MARKS: usize = 6528;
 
-// The rack and its key, the lone watches, and whether verdicts and reports are printed.
+// The rack and its key, the t at which the stream begins, the lone watches, and whether verdicts and reports are printed.
 pub struct Line {
     pub rack: Rack,
     pub key: u32,
+    pub from: u64,
     pub lones: [Lone; MANY],
     pub loud: bool,
 }
 
+// A rack that has come to a t, with some print there; as it was where that is 0.
+pub(crate) fn come_to(rack: Rack, t: u64) -> Rack {
+    let print = Fingerprint::of_number(12345);
+    if t == 0 {
+        return rack;
+    }
+    Rack {
+        now: Mark { at: t, print },
+        ..rack
+    }
+}
+
 // A rack without a card.
-pub(crate) fn begun(key: u32, loud: bool, tally: &mut [u32]) -> Line {
+pub(crate) fn begun(key: u32, from: u64, loud: bool, tally: &mut [u32]) -> Line {
     let begun = Rack::begin(Key::new(key));
     let verdict = begun.verdict;
     let nobody = absent();
-    let rack = begun.rack;
+    let rack = come_to(begun.rack, from);
     let number = meet(verdict, tally);
     expect(tally, number == 0);
     Line {
         rack,
         key,
+        from,
         lones: [nobody; MANY],
         loud,
     }
@@ -108,12 +132,16 @@ fn key_of(line: Line, own_key: bool) -> u32 {
     if own_key { line.key } else { sum(line.key, 1) }
 }
 
-// Prints the verdict of a call, with a name at a count.
-fn say_verdict(line: Line, call: &[u8], i: usize, number: u32) {
+// Prints the verdict of a call, with a name at a count; and since which count the name is in then, 0 where it is absent.
+fn say_verdict(line: Line, call: &[u8], i: usize, number: u32, after: Rack) {
     let now = line.rack.now;
+    let name = name_of(i);
     if line.loud {
         words(call);
-        say(b" # at #: #\n", &[name_of(i) as u32, now.at, number]);
+        say(
+            b" # at #: #, since #\n",
+            &[name as u64, now.at, number as u64, since_of(after, name)],
+        );
     }
 }
 
@@ -123,7 +151,7 @@ fn tell(line: Line, call: &[u8], i: usize, due: u32, change: Changed, tally: &mu
     let number = meet(verdict, tally);
     expect(tally, number == due);
     expect(tally, number == 0 || same_rack(line.rack, change.rack));
-    say_verdict(line, call, i, number);
+    say_verdict(line, call, i, number, change.rack);
 }
 
 // The line after a call, with another watch of name number i unless the call was refused.
@@ -135,13 +163,15 @@ fn after(line: Line, i: usize, lone: Lone, change: Changed) -> Line {
     changed(line, change.rack, i, lone)
 }
 
-// Puts in the card of a passage under name number i, with the rack's key or one more.
+// Puts in the card of a passage under name number i, with the rack's key or one more. It is in since the rack's t.
 pub(crate) fn put_in(line: Line, i: usize, passage: u32, own_key: bool, tally: &mut [u32]) -> Line {
     let card = card_of(passage, key_of(line, own_key));
     let rack = line.rack;
     let put = rack.put_in(name_of(i), card);
     let due = due(line, lone_of(line, i), own_key);
     tell(line, b"put in", i, due, put, tally);
+    let since = since_of(put.rack, name_of(i));
+    expect(tally, due != 0 || since == rack.now.at);
     after(
         line,
         i,
@@ -168,10 +198,13 @@ pub(crate) fn take_out(line: Line, i: usize, tally: &mut [u32]) -> Line {
 fn hear_set(set: Progression, counts: bool, loud: bool, tally: &mut [u32]) {
     if counts {
         mix(tally, set.first);
-        mix(tally, set.step);
-        mix(tally, set.many);
+        mix(tally, set.step as u64);
+        mix(tally, set.many as u64);
         if loud {
-            say(b", aside # # #", &[set.first, set.step, set.many]);
+            say(
+                b", aside # # #",
+                &[set.first, set.step as u64, set.many as u64],
+            );
         }
     }
 }
@@ -192,17 +225,17 @@ fn say_ring(ring: Ring) {
 }
 
 // Takes a report into the digest, and prints it.
-fn hear(report: Report, t: u32, loud: bool, tally: &mut [u32]) {
+fn hear(report: Report, t: u64, loud: bool, tally: &mut [u32]) {
     let answer = report.answer;
     let ring = answer.ring;
-    mix(tally, report.name as u32);
-    mix(tally, answer.comparisons);
-    mix(tally, answer.asides);
-    mix(tally, (ring_number(ring, 0) % 4294967296) as u32);
+    mix(tally, report.name as u64);
+    mix(tally, answer.comparisons as u64);
+    mix(tally, answer.asides as u64);
+    mix(tally, ring_number(ring, 0));
     if loud {
         say(
             b"at #, # compares #",
-            &[t, report.name as u32, answer.comparisons],
+            &[t, report.name as u64, answer.comparisons as u64],
         );
         say_ring(ring);
     }
@@ -218,7 +251,7 @@ fn judge_in(
     stream: &[u8],
     lone: Lone,
     i: usize,
-    key: u32,
+    line: Line,
     marks: &mut [u8],
     tally: &mut [u32],
 ) {
@@ -227,11 +260,11 @@ fn judge_in(
     let bytes = passage.bytes;
     if from <= marks.len() {
         judge(
-            answer,
+            lowered(answer, line.from),
             stream,
-            lone.since,
+            less(lone.since, line.from),
             front(&bytes, passage.length),
-            key,
+            line.key,
             &mut marks[from..],
             tally,
         );
@@ -265,7 +298,7 @@ fn check(
     let i = number_of(report.name);
     let lone = lone_of(line, i);
     heard(report, before, lone, line, tally);
-    judge_in(report.answer, stream, lone, i, line.key, marks, tally);
+    judge_in(report.answer, stream, lone, i, line, marks, tally);
 }
 
 // All places of the reports, after the byte.
@@ -288,8 +321,8 @@ fn count(struck: Struck, line: Line, tally: &mut [u32]) {
     let number = meet(verdict, tally);
     let sums = reports.many == inside(lones) && reports.comparisons == comparisons(lones);
     expect(tally, number == 0 && sums);
-    mix(tally, reports.many);
-    mix(tally, reports.comparisons);
+    mix(tally, long(reports.many));
+    mix(tally, long(reports.comparisons));
     add(tally, COMPARISONS, reports.comparisons);
 }
 
@@ -304,6 +337,20 @@ fn moved(line: Line, struck: Struck, byte: u8) -> Line {
     }
 }
 
+// A byte when the count is spent: refused with 6, and nothing is changed or reported.
+fn refuse(line: Line, byte: u8, tally: &mut [u32]) -> Line {
+    let rack = line.rack;
+    let struck = rack.stroke(byte);
+    let verdict = struck.verdict;
+    let number = meet(verdict, tally);
+    expect(tally, number == 6 && is_nothing(struck.reports));
+    expect(tally, same_rack(rack, struck.rack));
+    if line.loud {
+        say(b"stroke at #: #\n", &[rack.now.at, number as u64]);
+    }
+    line
+}
+
 // A byte, to the rack and to each lone watch.
 pub(crate) fn strike(
     line: Line,
@@ -313,7 +360,10 @@ pub(crate) fn strike(
     tally: &mut [u32],
 ) -> Line {
     let rack = line.rack;
-    let t = rack.now.at as usize;
+    if LAST_T <= rack.now.at {
+        return refuse(line, byte, tally);
+    }
+    let t = less(rack.now.at, line.from) as usize;
     let struck = rack.stroke(byte);
     let next = moved(line, struck, byte);
     put(stream, t, byte);

@@ -33,7 +33,7 @@ const NAMES: [u16; MANY] = [
 // A watch of one name: whether its card is in the rack, since which count and of which passage; the watch, and its last answer.
 pub struct Lone {
     pub inside: bool,
-    pub since: u32,
+    pub since: u64,
     pub passage: u32,
     pub watch: Matcher,
     pub answer: Answer,
@@ -57,7 +57,7 @@ pub(crate) fn number_of(name: u16) -> usize {
 }
 
 // A fresh watch of a card, put in at a count.
-pub(crate) fn put_in(card: Signature, since: u32, passage: u32) -> Lone {
+pub(crate) fn put_in(card: Signature, since: u64, passage: u32) -> Lone {
     let started = Matcher::start(card);
     let watch = started.matcher;
     Lone {
@@ -148,25 +148,30 @@ pub(crate) fn comparisons(lones: [Lone; MANY]) -> u32 {
     n
 }
 
+// The sum of two places of the stream; no trial comes near the end of the numbers.
+fn raised(start: u64, c: u64) -> u64 {
+    std::num::wrapping_add_u64(start, c)
+}
+
 // A ring as a number: 0, or one more than its start, which is raised by c.
-pub(crate) fn ring_number(ring: Ring, c: u32) -> u64 {
+pub(crate) fn ring_number(ring: Ring, c: u64) -> u64 {
     if let Ring::At(start) = ring {
-        return start as u64 + c as u64 + 1;
+        return raised(raised(start, c), 1);
     }
     0
 }
 
 // Whether a set is another with its starts raised by c; the same where it is none.
-fn is_set_raised(set: Progression, lone: Progression, c: u32, counts: bool) -> bool {
+fn is_set_raised(set: Progression, lone: Progression, c: u64, counts: bool) -> bool {
     let same = set.step == lone.step && set.many == lone.many;
     if counts {
-        return same && set.first as u64 == lone.first as u64 + c as u64;
+        return same && set.first == raised(lone.first, c);
     }
     same && set.first == lone.first
 }
 
 // Whether an answer is another with its starts raised by c.
-fn are_sets_raised(answer: Answer, lone: Answer, c: u32) -> bool {
+fn are_sets_raised(answer: Answer, lone: Answer, c: u64) -> bool {
     let mut same = true;
     let mut i: u32 = 0;
     while i < 20 {

@@ -20,6 +20,8 @@ mod tally; // tally.rt: counters
 fn handed_in(tally: &mut [u32]) {
     refusals::racks(tally);
     refusals::ends(tally);
+    refusals::limits(tally);
+    refusals::late_counts(tally);
     refusals::cards(tally);
     refusals::names(tally);
 }
@@ -31,14 +33,16 @@ fn further(tally: &mut [u32]) {
     refusals::orders(tally);
 }
 
-// Lists of calls: written out, and drawn under two small keys, and the largest.
+// Lists of calls: written out, and drawn under two small keys, and the largest; some from a late t on.
 fn lists(tally: &mut [u32]) {
     scripts::few(tally);
     scripts::names(tally);
     scripts::amid(tally);
-    runs::group(2, tally);
-    runs::group(3, tally);
-    runs::group(2147483646, tally);
+    scripts::late(tally);
+    runs::group(2, 0, tally);
+    runs::group(3, 0, tally);
+    runs::group(2147483646, 0, tally);
+    runs::group(2, 4294967196, tally);
 }
 
 fn main() {

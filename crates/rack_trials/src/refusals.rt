@@ -2,6 +2,7 @@
 // a card, taking one out and a stroke met.
 use crate::cards::ONES;
 use crate::cards::card_of;
+use crate::line::come_to;
 use crate::numbers::CARD;
 use crate::numbers::CARD_KEY;
 use crate::numbers::F_FIRST;
@@ -25,6 +26,7 @@ use crate::numbers::changed_card;
 use crate::numbers::changed_rack;
 use crate::numbers::is_nothing;
 use crate::numbers::same_rack;
+use crate::numbers::since_of;
 use crate::print::say;
 use crate::print::word_of;
 use crate::print::words;
@@ -40,14 +42,16 @@ use signature::Signature;
 use stage::Mark;
 
 // The racks that are tried, all under key 2: without a card; with three of sixteen ones, put in at 0, 3 and 6 of six ones; with one, put in
-// at 0; and with sixteen cards.
-const EMPTY: u32 = 0;
+// at 0; with sixteen cards; and with three as before, of which the first was put in at 4294967293, where the stream begins.
+const EMPTY: u64 = 0;
 
-const THREE: u32 = 1;
+const THREE: u64 = 1;
 
-const ONE: u32 = 2;
+const ONE: u64 = 2;
 
-const FULL: u32 = 3;
+const FULL: u64 = 3;
+
+const LATE: u64 = 4;
 
 fn card() -> Signature {
     card_of(ONES, 2)
@@ -87,14 +91,15 @@ fn full() -> Rack {
     rack
 }
 
-fn rack_of(n: u32) -> Rack {
+fn rack_of(n: u64) -> Rack {
     if n == EMPTY {
         return begun();
     }
     if n == FULL {
         return full();
     }
-    let one = with(begun(), 300);
+    let from = if n == LATE { 4294967293 } else { 0 };
+    let one = with(come_to(begun(), from), 300);
     if n == ONE {
         return one;
     }
@@ -102,15 +107,15 @@ fn rack_of(n: u32) -> Rack {
     with(after(two, 3), 65535)
 }
 
-fn say_rack(n: u32) {
+fn say_rack(n: u64) {
     word_of(
-        b"no card;cards 300 since 0, 7 since 3 and 65535 since 6 at 6;card 300;sixteen cards",
+        b"no card;cards 300 since 0, 7 since 3 and 65535 since 6 at 6;card 300;sixteen cards;late cards 300, 7 and 65535",
         n,
     );
 }
 
 // A number of a place, in words.
-fn say_number(i: u32) {
+fn say_number(i: u64) {
     if i < PRINTS {
         word_of(b"name;since;length;key", i);
         return;
@@ -127,7 +132,7 @@ fn say_number(i: u32) {
 }
 
 // A number that is replaced.
-fn say_change(place: u32, i: u32, value: u32) {
+fn say_change(place: u64, i: u64, value: u64) {
     if place == NONE {
         return;
     }
@@ -141,7 +146,7 @@ fn say_change(place: u32, i: u32, value: u32) {
 }
 
 // A place of the rack, or the card that is put in.
-fn say_place(place: u32) {
+fn say_place(place: u64) {
     if place == CARD {
         words(b", the card's ");
     } else {
@@ -150,7 +155,7 @@ fn say_place(place: u32) {
 }
 
 // The front of a line.
-fn say_case(row: [u32; 8]) {
+fn say_case(row: [u64; 8]) {
     say_rack(row[0]);
     say_change(row[2], row[3], row[4]);
     say_change(row[5], row[6], row[7]);
@@ -158,13 +163,13 @@ fn say_case(row: [u32; 8]) {
 }
 
 // The rack of a row.
-fn rack_for(row: [u32; 8]) -> Rack {
+fn rack_for(row: [u64; 8]) -> Rack {
     let once = changed_rack(rack_of(row[0]), row[2], row[3], row[4]);
     changed_rack(once, row[5], row[6], row[7])
 }
 
 // The card that is put in: with the rack's key, unless the row replaces a number of it.
-fn card_for(row: [u32; 8], key: u32) -> Signature {
+fn card_for(row: [u64; 8], key: u64) -> Signature {
     if row[2] == CARD {
         return changed_card(card(), row[3], row[4]);
     }
@@ -174,11 +179,11 @@ fn card_for(row: [u32; 8], key: u32) -> Signature {
 // Prints the verdict of a call, and counts it; hands back its number.
 fn tell(verdict: Verdict, tally: &mut [u32]) -> u32 {
     let number = meet(verdict, tally);
-    say(b" #", &[number]);
+    say(b" #", &[number as u64]);
     number
 }
 
-// Whether putting in did what its verdict says: it left the rack as it was, or taking the card out does so.
+// Whether putting in did what its verdict says: it left the rack as it was, or the card is in since t, and taking it out leaves the rack so.
 fn put_well(before: Rack, name: u16, put: Changed, number: u32) -> bool {
     let rack = put.rack;
     if number != 0 {
@@ -186,7 +191,8 @@ fn put_well(before: Rack, name: u16, put: Changed, number: u32) -> bool {
     }
     let taken = rack.take_out(name);
     let verdict = taken.verdict;
-    verdict.number() == 0 && same_rack(taken.rack, before)
+    let since = since_of(rack, name) == before.now.at;
+    since && verdict.number() == 0 && same_rack(taken.rack, before)
 }
 
 fn put(rack: Rack, name: u16, card: Signature, tally: &mut [u32]) {
@@ -239,14 +245,14 @@ fn calls(rack: Rack, name: u16, card: Signature, tally: &mut [u32]) {
 }
 
 // A case. A row: rack; name; place, number, value; another place, number, value.
-fn case(row: [u32; 8], tally: &mut [u32]) {
+fn case(row: [u64; 8], tally: &mut [u32]) {
     let rack = rack_for(row);
-    let key = rack.key.number();
+    let key = rack.key.number() as u64;
     say_case(row);
     calls(rack, (row[1] % 65536) as u16, card_for(row, key), tally);
 }
 
-fn cases(rows: &[[u32; 8]], tally: &mut [u32]) {
+fn cases(rows: &[[u64; 8]], tally: &mut [u32]) {
     let mut i: usize = 0;
     while i < rows.len() {
         case(rows[i], tally);
@@ -284,16 +290,189 @@ pub(crate) fn ends(tally: &mut [u32]) {
     cases(
         &[
             [EMPTY, 300, ITSELF, T, 1, ITSELF, F_T, 1],
-            [EMPTY, 300, ITSELF, T, 4294967294, NONE, 0, 0],
+            [EMPTY, 300, ITSELF, T, 1099511627774, NONE, 0, 0],
+            [EMPTY, 300, ITSELF, T, 1099511627775, NONE, 0, 0],
+            [ONE, 300, ITSELF, T, 1099511627774, NONE, 0, 0],
+            [ONE, 300, ITSELF, T, 1099511627775, NONE, 0, 0],
+            [FULL, 300, ITSELF, T, 1099511627774, NONE, 0, 0],
+            [FULL, 300, ITSELF, T, 1099511627775, NONE, 0, 0],
+            [ONE, 300, ITSELF, T, 1099511627774, 0, SINCE, 1099511627774],
+            [ONE, 300, ITSELF, T, 1099511627774, 0, SINCE, 1099511627775],
+            [ONE, 300, ITSELF, T, 1099511627775, 0, SINCE, 1099511627775],
+            [ONE, 300, ITSELF, T, 1099511627775, ITSELF, F_T, 2147483647],
+        ],
+        tally,
+    );
+}
+
+// t around 4294967296 and past the last, and the count since which a card is in, where one of the two is right only modulo 2^32.
+pub(crate) fn limits(tally: &mut [u32]) {
+    cases(
+        &[
             [EMPTY, 300, ITSELF, T, 4294967295, NONE, 0, 0],
-            [ONE, 300, ITSELF, T, 4294967294, NONE, 0, 0],
+            [EMPTY, 300, ITSELF, T, 4294967296, NONE, 0, 0],
+            [EMPTY, 300, ITSELF, T, 1099511627776, NONE, 0, 0],
+            [EMPTY, 300, ITSELF, T, 9223372036854775808, NONE, 0, 0],
+            [EMPTY, 300, ITSELF, T, 18446744073709551615, NONE, 0, 0],
             [ONE, 300, ITSELF, T, 4294967295, NONE, 0, 0],
-            [FULL, 300, ITSELF, T, 4294967294, NONE, 0, 0],
+            [ONE, 300, ITSELF, T, 4294967296, NONE, 0, 0],
+            [ONE, 300, ITSELF, T, 1099511627776, NONE, 0, 0],
+            [ONE, 300, ITSELF, T, 9223372036854775808, NONE, 0, 0],
+            [ONE, 300, ITSELF, T, 18446744073709551615, NONE, 0, 0],
             [FULL, 300, ITSELF, T, 4294967295, NONE, 0, 0],
-            [ONE, 300, ITSELF, T, 4294967294, 0, SINCE, 4294967294],
-            [ONE, 300, ITSELF, T, 4294967294, 0, SINCE, 4294967295],
-            [ONE, 300, ITSELF, T, 4294967295, 0, SINCE, 4294967295],
-            [ONE, 300, ITSELF, T, 4294967295, ITSELF, F_T, 2147483647],
+            [FULL, 300, ITSELF, T, 4294967296, NONE, 0, 0],
+            [FULL, 300, ITSELF, T, 1099511627776, NONE, 0, 0],
+            [FULL, 300, ITSELF, T, 9223372036854775808, NONE, 0, 0],
+            [FULL, 300, ITSELF, T, 18446744073709551615, NONE, 0, 0],
+            [ONE, 300, ITSELF, T, 4294967296, 0, SINCE, 4294967296],
+            [ONE, 300, ITSELF, T, 4294967296, 0, SINCE, 4294967297],
+            [ONE, 300, ITSELF, T, 4294967302, 0, SINCE, 6],
+            [ONE, 300, ITSELF, T, 4294967302, 0, SINCE, 4294967303],
+            [ONE, 300, ITSELF, T, 6, 0, SINCE, 4294967302],
+            [ONE, 300, ITSELF, T, 6, 0, SINCE, 4294967296],
+            [ONE, 300, ITSELF, T, 1099511627775, 0, SINCE, 4294967296],
+            [
+                ONE,
+                300,
+                ITSELF,
+                T,
+                1099511627775,
+                0,
+                SINCE,
+                9223372036854775808,
+            ],
+            [ONE, 300, ITSELF, T, 1099511627776, 0, SINCE, 1099511627776],
+            [
+                ONE,
+                300,
+                ITSELF,
+                T,
+                18446744073709551615,
+                0,
+                SINCE,
+                18446744073709551615,
+            ],
+            [THREE, 300, 3, SINCE, 4294967296, NONE, 0, 0],
+            [EMPTY, 300, 0, SINCE, 4294967296, NONE, 0, 0],
+            [THREE, 300, 2, SINCE, 4294967302, NONE, 0, 0],
+            [ONE, 300, ITSELF, T, 4294967296, ITSELF, F_T, 2147483647],
+            [ONE, 300, ITSELF, T, 1099511627776, ITSELF, F_T, 2147483647],
+        ],
+        tally,
+    );
+}
+
+// A rack whose t, counts and starts are around 4294967296: a count above t, a start below it, starts that are right only modulo 2^32.
+pub(crate) fn late_counts(tally: &mut [u32]) {
+    cases(
+        &[
+            [LATE, 300, NONE, 0, 0, NONE, 0, 0],
+            [LATE, 300, ITSELF, T, 3, NONE, 0, 0],
+            [LATE, 300, ITSELF, T, 4294967298, NONE, 0, 0],
+            [LATE, 300, ITSELF, T, 4294967300, NONE, 0, 0],
+            [LATE, 300, ITSELF, T, 8589934595, NONE, 0, 0],
+            [LATE, 300, ITSELF, T, 1099511627775, NONE, 0, 0],
+            [LATE, 300, 0, SINCE, 4294967294, NONE, 0, 0],
+            [LATE, 300, 0, SINCE, 4294967293, NONE, 0, 0],
+            [LATE, 300, 0, SINCE, 0, NONE, 0, 0],
+            [LATE, 300, 1, SINCE, 4294967295, NONE, 0, 0],
+            [LATE, 300, 1, SINCE, 4294967297, NONE, 0, 0],
+            [LATE, 300, 1, SINCE, 0, NONE, 0, 0],
+            [LATE, 300, 2, SINCE, 4294967300, NONE, 0, 0],
+            [LATE, 300, 2, SINCE, 3, NONE, 0, 0],
+            [LATE, 300, 2, SINCE, 8589934595, NONE, 0, 0],
+            [LATE, 300, 2, SINCE, 18446744073709551615, NONE, 0, 0],
+            [LATE, 300, 0, STAGES + FIRST, 2, 0, STAGES + LAST, 2],
+            [
+                LATE,
+                300,
+                0,
+                STAGES + FIRST,
+                4294967297,
+                0,
+                STAGES + LAST,
+                4294967297,
+            ],
+            [
+                LATE,
+                300,
+                0,
+                STAGES + FIRST,
+                4294967299,
+                0,
+                STAGES + LAST,
+                4294967299,
+            ],
+            [
+                LATE,
+                300,
+                0,
+                STAGES + FIRST,
+                8589934594,
+                0,
+                STAGES + LAST,
+                8589934594,
+            ],
+            [
+                LATE,
+                300,
+                0,
+                STAGES + FIRST,
+                18446744073709551615,
+                0,
+                STAGES + LAST,
+                18446744073709551615,
+            ],
+            [
+                LATE,
+                300,
+                1,
+                STAGES + FIRST,
+                4294967298,
+                1,
+                STAGES + LAST,
+                4294967298,
+            ],
+            [
+                LATE,
+                300,
+                0,
+                STAGES + 14 + FIRST,
+                4294967293,
+                0,
+                STAGES + 14 + LAST,
+                4294967295,
+            ],
+            [
+                LATE,
+                300,
+                0,
+                STAGES + 14 + FIRST,
+                4294967294,
+                0,
+                STAGES + 14 + LAST,
+                4294967295,
+            ],
+            [
+                LATE,
+                300,
+                0,
+                STAGES + 14 + FIRST,
+                4294967293,
+                0,
+                STAGES + 14 + LAST,
+                8589934591,
+            ],
+            [
+                LATE,
+                300,
+                0,
+                STAGES + 14 + FIRST,
+                18446744073709551615,
+                0,
+                STAGES + 14 + LAST,
+                1,
+            ],
         ],
         tally,
     );
@@ -324,7 +503,7 @@ pub(crate) fn cards(tally: &mut [u32]) {
             [FULL, 300, 15, PRINTS + 4, 2147483647, NONE, 0, 0],
             [FULL, 300, 15, PRINTS, 0, NONE, 0, 0],
             [FULL, 300, 15, PRINTS, 1, NONE, 0, 0],
-            [ONE, 300, ITSELF, T, 4294967295, 0, PRINTS, 0],
+            [ONE, 300, ITSELF, T, 1099511627775, 0, PRINTS, 0],
         ],
         tally,
     );
@@ -498,7 +677,7 @@ fn empty(key: u32) -> Rack {
 
 // A rack is begun under a key; beside a verdict stands a rack with no card, and with the key unless it was refused.
 fn begin(key: u32, tally: &mut [u32]) {
-    say(b"begin, key #:", &[key]);
+    say(b"begin, key #:", &[key as u64]);
     let begun = Rack::begin(Key::new(key));
     let verdict = begun.verdict;
     let number = tell(verdict, tally);

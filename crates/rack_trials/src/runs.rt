@@ -173,26 +173,29 @@ fn write(script: &mut [u8], cards: u32, key: u32) {
 }
 
 // A run under a key.
-fn run(cards: u32, key: u32, tally: &mut [u32]) {
+fn run(cards: u32, key: u32, from: u64, tally: &mut [u32]) {
     let mut script = [0u8; SCRIPT];
     write(&mut script, cards, key);
-    play(&script, key, false, tally);
+    play(&script, key, from, false, tally);
 }
 
 // The runs under a key, which begin with 0, 1 .. cards.
-fn runs(key: u32, tally: &mut [u32]) {
+fn runs(key: u32, from: u64, tally: &mut [u32]) {
     let mut cards: u32 = 0;
     while cards < RUNS {
-        run(cards, key, tally);
+        run(cards, key, from, tally);
         cards = cards + 1;
     }
 }
 
-// The same, and their counts.
-pub(crate) fn group(key: u32, all: &mut [u32]) {
+// The same from a t on, and their counts.
+pub(crate) fn group(key: u32, from: u64, all: &mut [u32]) {
     let mut tally = [0u32; PLACES];
-    runs(key, &mut tally);
-    say(b"# runs under key #: ", &[RUNS, key]);
+    runs(key, from, &mut tally);
+    say(
+        b"# runs under key # from #: ",
+        &[RUNS as u64, key as u64, from],
+    );
     say_counts(&tally);
     gather(&tally, all);
 }

@@ -8,6 +8,7 @@ use crate::line::begun;
 use crate::line::put_in;
 use crate::line::strike;
 use crate::line::take_out;
+use crate::print::say;
 use crate::print::words;
 use crate::tally::PLACES;
 use crate::tally::gather;
@@ -71,22 +72,30 @@ fn calls(before: Line, script: &[u8], stream: &mut [u8], marks: &mut [u8], tally
     }
 }
 
-// A script on a new rack.
-pub(crate) fn play(script: &[u8], key: u32, loud: bool, tally: &mut [u32]) {
+// A script on a new rack, or on one that was handed in with a later t.
+pub(crate) fn play(script: &[u8], key: u32, from: u64, loud: bool, tally: &mut [u32]) {
     let mut stream = [0u8; STREAM];
     let mut marks = [0u8; MARKS];
-    let line = begun(key, loud, tally);
+    let line = begun(key, from, loud, tally);
     calls(line, script, &mut stream, &mut marks, tally);
 }
 
-// A script under key 2, its reports and its counts.
-fn show(title: &[u8], script: &[u8], all: &mut [u32]) {
+// A script under key 2 from a t on, its reports and its counts.
+fn show_from(title: &[u8], from: u64, script: &[u8], all: &mut [u32]) {
     let mut tally = [0u32; PLACES];
     words(title);
+    if from != 0 {
+        say(b", from #", &[from]);
+    }
     words(b"\n");
-    play(script, 2, true, &mut tally);
+    play(script, 2, from, true, &mut tally);
     say_counts(&tally);
     gather(&tally, all);
+}
+
+// The same from the first byte on.
+fn show(title: &[u8], script: &[u8], all: &mut [u32]) {
+    show_from(title, 0, script, all);
 }
 
 // No card, one, two, and one card under two names.
@@ -124,6 +133,32 @@ pub(crate) fn amid(all: &mut [u32]) {
     show(
         b"refused calls",
         b"-B*Ba+Ba+Ba*Ba-A-B-B1+Bb-A+Aa1*Cc+Cg-A-A1",
+        all,
+    );
+}
+
+// The same calls from a late t on: counts and starts that 32 bits hold, and that they don't.
+fn late_from(from: u64, all: &mut [u32]) {
+    show_from(b"one card", from, b"+Ac111110311111111103", all);
+    show_from(b"two cards", from, b"+Cd+De111011010", all);
+    show_from(b"put in amid an occurrence", from, b"111+Cc1111111111", all);
+    show_from(
+        b"taken out before a set aside and put in again",
+        from,
+        b"+Cc11111-C03+Cc111110311111111",
+        all,
+    );
+}
+
+// Over 4294967296, from it on, and until the count is spent, when a card can still be put in and taken out.
+pub(crate) fn late(all: &mut [u32]) {
+    late_from(4294967288, all);
+    late_from(4294967296, all);
+    late_from(1099511627750, all);
+    show_from(
+        b"the count spent",
+        1099511627763,
+        b"+Aa+Bc11111111111111+Db-A10-B-C",
         all,
     );
 }

@@ -1,5 +1,4 @@
 // Counters of the trials, in a slice of numbers, each at its place.
-use crate::print::number;
 use crate::print::say;
 use refusal::Verdict;
 
@@ -33,6 +32,16 @@ pub const DIGEST: usize = 24;
 // How many counters there are.
 pub const PLACES: usize = 25;
 
+// The counter at a place, 0 past the end.
+fn number(tally: &[u32], i: usize) -> u32 {
+    if i < tally.len() { tally[i] } else { 0 }
+}
+
+// The same, to be printed.
+fn count(tally: &[u32], i: usize) -> u64 {
+    number(tally, i) as u64
+}
+
 // Adds to a counter.
 pub(crate) fn add(tally: &mut [u32], i: usize, by: u32) {
     if i < tally.len() {
@@ -49,12 +58,12 @@ pub(crate) fn expect(tally: &mut [u32], holds: bool) {
 }
 
 // The digest with one number more.
-fn mixed(digest: u32, value: u32) -> u32 {
-    (((digest as u64) * 65599 + (value as u64)) % 4294967291) as u32
+fn mixed(digest: u32, value: u64) -> u32 {
+    (((digest as u64) * 65599 + value % 4294967291) % 4294967291) as u32
 }
 
 // Takes a number into the digest.
-pub(crate) fn mix(tally: &mut [u32], value: u32) {
+pub(crate) fn mix(tally: &mut [u32], value: u64) {
     if DIGEST < tally.len() {
         let digest = mixed(tally[DIGEST], value);
         tally[DIGEST] = digest;
@@ -64,7 +73,7 @@ pub(crate) fn mix(tally: &mut [u32], value: u32) {
 // Counts a verdict by its number, which it hands back.
 pub(crate) fn meet(verdict: Verdict, tally: &mut [u32]) -> u32 {
     let met = verdict.number();
-    mix(tally, met);
+    mix(tally, met as u64);
     if met == 0 {
         add(tally, ACCEPTED, 1);
     } else {
@@ -74,18 +83,18 @@ pub(crate) fn meet(verdict: Verdict, tally: &mut [u32]) -> u32 {
 }
 
 // How often a number was met, unless never.
-fn say_count(refusal: u32, n: u32) {
+fn say_count(refusal: u32, n: u64) {
     if 0 < n {
-        say(b", refused # with #", &[n, refusal]);
+        say(b", refused # with #", &[n, refusal as u64]);
     }
 }
 
 // How many calls were accepted, and how many were refused with each number.
 fn say_calls(tally: &[u32]) {
-    say(b"calls accepted #", &[number(tally, ACCEPTED)]);
+    say(b"calls accepted #", &[count(tally, ACCEPTED)]);
     let mut i: u32 = 1;
     while i < 15 {
-        say_count(i, number(tally, i as usize));
+        say_count(i, count(tally, i as usize));
         i = i + 1;
     }
 }
@@ -95,21 +104,21 @@ fn say_reports(tally: &[u32]) {
     say(
         b"; reports #, rings # of which false #, sets # of starts #",
         &[
-            number(tally, REPORTS),
-            number(tally, RINGS),
-            number(tally, FALSE_RINGS),
-            number(tally, SETS),
-            number(tally, ASIDE),
+            count(tally, REPORTS),
+            count(tally, RINGS),
+            count(tally, FALSE_RINGS),
+            count(tally, SETS),
+            count(tally, ASIDE),
         ],
     );
     say(
         b", occurrences # of which set aside #, comparisons #, digest #, failures #\n",
         &[
-            number(tally, OCCURRENCES),
-            number(tally, MISSED),
-            number(tally, COMPARISONS),
-            number(tally, DIGEST),
-            number(tally, FAILURES),
+            count(tally, OCCURRENCES),
+            count(tally, MISSED),
+            count(tally, COMPARISONS),
+            count(tally, DIGEST),
+            count(tally, FAILURES),
         ],
     );
 }
@@ -122,7 +131,7 @@ pub(crate) fn say_counts(tally: &[u32]) {
 
 // Adds the counts of one tally to another, and mixes the digests.
 pub(crate) fn gather(from: &[u32], tally: &mut [u32]) {
-    mix(tally, number(from, DIGEST));
+    mix(tally, count(from, DIGEST));
     let mut i: usize = 0;
     while i < DIGEST {
         add(tally, i, number(from, i));

@@ -1,6 +1,6 @@
 -- A raised watch is no misfit, takes the byte that the watch takes, and its answer and next watch are the raised ones.
 -- Assumes nothing.
-use Prim.Native.Nat.{ℕ, _+_, _<_}
+use Prim.Native.Nat.{ℕ, _+_, _≤_, _<_}
 use mathlib.Core.Path.{_≡_, refl, sym, _∙_, ap}
 use mathlib.Core.Bool.{true}
 use native.Mathlib.Nat.{add-zero}
@@ -84,11 +84,12 @@ module _ (base : Mark) (w : Matcher) (b : Base base) (fits : matcherFits w ≡ t
   abbrev key′ : Key
   key′ = w .signature .key
 
-  pub raised-fits : matcherFits (raisedWatch base w) ≡ true
+  pub raised-fits : base .at + w .now .at ≤ maxTaken → matcherFits (raisedWatch base w) ≡ true
   unfolding raisedWatch
-  raised-fits =
+  raised-fits within =
       sound-fits _ (record {
         card = own .card;
+        within = within;
         print = joined-below key′ _ _ _;
         starts = λ z. rw (b .starts (omega arith), own .starts (omega arith)) (joined-none key′ (w .now .at));
         stage =
@@ -103,7 +104,7 @@ module _ (base : Mark) (w : Matcher) (b : Base base) (fits : matcherFits w ≡ t
 
     pub raised-taken : strokeRefusal (raisedWatch base w) ≡ 0
     unfolding raisedWatch
-    raised-taken = rw (raised-fits, lt-ltb (base .at + w .now .at) maxTaken room)
+    raised-taken = rw (raised-fits (omega arith), lt-ltb (base .at + w .now .at) maxTaken room)
 
     both : Both key′ base (walked w byte) (walked (raisedWatch base w) byte)
     unfolding raisedWatch

@@ -2,16 +2,19 @@
 -- Assumes nothing.
 use Prim.Native.Nat.{ℕ, _+_, _-_, _≤_, _<_, min}
 use mathlib.Core.Path.{_≡_, sym, _∙_, ap}
-use mathlib.Core.Bool.{Bool, true, false}
 use mathlib.Core.List.{List, [], _++_, append-nil}
 use native.Mathlib.Nat.{le-refl}
 use native.Mathlib.Decide.{decLe}
 use native.Mathlib.Omega.{arith}
+use lib.Dec.{eqb}
 use lib.ListN.{length, take, drop, length-drop, drop-of-length-le}
 use lib.Seq.{take-all}
-use borrow.Author.Tests.{le-ltb, lt-ltb}
+use borrow.Author.Tests.{eqb-true}
+use Rattle.lists.proofs.Cases.{by-test}
 use Rattle.matcher.specs.declared.Matcher.{Matcher}
+use Rattle.record.specs.declared.Format.{Format}
 use Rattle.record.specs.Calls.{
+  putRefusal,
   putUsed,
   saveRefusal,
   saveUsed,
@@ -20,15 +23,14 @@ use Rattle.record.specs.Calls.{
   behindUsed,
   behindBuffer,
 }
+use Rattle.record.proofs.Accepted.{put-passed}
 
 -- a writer uses no more than it is lent
-pub used-within : (fits : Bool) (bytes entry : List ℕ) → putUsed fits bytes entry ≤ length entry
-used-within false bytes entry = omega arith
-used-within true bytes entry =
-    elim (decLe (length bytes) (length entry)) [
-      | yes h ↦ rw (le-ltb (length entry) (length bytes) h) h
-      | no h ↦ rw (lt-ltb (length entry) (length bytes) (omega arith)) (omega arith)
-    ]
+pub used-within : (judged : ℕ) (bytes entry : List ℕ) → putUsed judged bytes entry ≤ length entry
+used-within judged bytes entry =
+    by-test (eqb (putRefusal judged bytes entry) 0)
+    (λ e. rw e (put-passed judged bytes entry (eqb-true _ _ e) .1))
+    (λ e. rw e (omega arith))
 
 module _ (xs : List ℕ) (used from : ℕ) (e : from ≡ min used (length xs)) where
   -- the place from which on the buffer is lent, and the part that is lent
@@ -54,22 +56,22 @@ module _ (xs : List ℕ) (used from : ℕ) (e : from ≡ min used (length xs)) w
 
   -- the used length and the record together are no more than the used length or the buffer
   pub behind-within :
-      (fits : Bool) (bytes : List ℕ) (bound : ℕ)
+      (judged : ℕ) (bytes : List ℕ) (bound : ℕ)
       → used < bound
       → length xs < bound
-      → used + putUsed fits bytes (take (length xs - from) (drop from xs)) < bound
-  behind-within fits bytes bound h l =
-      rw lent (omega (arith, used-within fits bytes (drop used xs), length-drop used xs))
+      → used + putUsed judged bytes (take (length xs - from) (drop from xs)) < bound
+  behind-within judged bytes bound h l =
+      rw lent (omega (arith, used-within judged bytes (drop used xs), length-drop used xs))
 
   pub saved-behind :
-      (w : Matcher) (n u : ℕ) (ys : List ℕ)
-      → n ≡ saveRefusal w (take (length xs - from) (drop from xs))
-      → u ≡ saveUsed w (take (length xs - from) (drop from xs))
-      → ys ≡ saveBuffer w (take (length xs - from) (drop from xs))
-      → (n ≡ behindRefusal w xs used)
-      × ((used + u ≡ behindUsed w xs used)
-      × (take from xs ++ (ys ++ drop (length xs - from) (drop from xs)) ≡ behindBuffer w xs used))
-  saved-behind w n u ys en eu ey = (
+      (f : Format) (w : Matcher) (n u : ℕ) (ys : List ℕ)
+      → n ≡ saveRefusal f w (take (length xs - from) (drop from xs))
+      → u ≡ saveUsed f w (take (length xs - from) (drop from xs))
+      → ys ≡ saveBuffer f w (take (length xs - from) (drop from xs))
+      → (n ≡ behindRefusal f w xs used)
+      × ((used + u ≡ behindUsed f w xs used)
+      × (take from xs ++ (ys ++ drop (length xs - from) (drop from xs)) ≡ behindBuffer f w xs used))
+  saved-behind f w n u ys en eu ey = (
     rw lent at en,
     (
       ap (λ (k : ℕ). used + k) (rw lent at eu),

@@ -2,10 +2,11 @@
 -- record's length. Assumes nothing.
 use Prim.Native.Nat.{ℕ, _+_, _*_, _≤_, _<_}
 use mathlib.Core.Path.{_≡_, refl, sym, _∙_, ap}
-use mathlib.Core.Bool.{true}
+use mathlib.Core.Bool.{true, cond}
 use mathlib.Core.List.{List, [], _∷_, _++_}
 use native.Mathlib.Decide.{decLt}
 use native.Mathlib.Omega.{arith}
+use lib.Dec.{eqb}
 use lib.ListN.{length, getD, length-append}
 use borrow.Author.Tests.{lt-ltb, le-ltb, eq-eqb}
 use Rattle.fields.specs.Fields.{Field, values, widths, size, valuesAt}
@@ -17,11 +18,13 @@ use Rattle.ladder.specs.Prefix.{levels}
 use Rattle.lists.proofs.Laws.{tabulated}
 use Rattle.stage.specs.declared.Stage.{Stage}
 use Rattle.matcher.specs.declared.Matcher.{Matcher}
-use Rattle.stage.specs.Stage.{maxTaken, noStage}
+use Rattle.stage.specs.Stage.{noStage}
 use Rattle.stage.specs.Stages.{stageCount, stageAt}
 use Rattle.matcher.specs.Matcher.{matcherFits, noMatcher}
 use Rattle.stage.proofs.Fit.{fit-past}
 use Rattle.matcher.proofs.Sound.{sound}
+use Rattle.record.specs.declared.Format.{Format}
+use Rattle.record.specs.declared.Format.the-variants.{Narrow, Wide}
 use Rattle.record.specs.Layout.{
   recordFields,
   printFields,
@@ -49,15 +52,10 @@ use Rattle.record.specs.Layout.{
   matcherFrom,
   matcherAt,
 }
-use Rattle.record.specs.Calls.{restoreRefusal, restoredMatcher, restoreTaken, checkpointLeast}
+use Rattle.record.specs.Calls.{canSay, formatOf, restoreRefusal, restoredMatcher, restoreTaken, checkpointLeast}
 use Rattle.record.proofs.Fits.{watch-fields}
 use Rattle.record.proofs.Sizes.{checkpoint-widths, checkpoint-same, checkpoint-size, checkpoint-length-is}
 use Rattle.record.proofs.Head.{head-accepted}
-
--- What the code's types say of a watch: so many stages, and t in 32 bits.
-pub record Shaped (w : Matcher) : Type 0 where
-  pub stages : length (w .stages) ≡ stageCount
-  pub now : w .now .at ≤ maxTaken
 
 abbrev k : Matcher → ℕ
 k w = levels (w .signature .length)
@@ -65,10 +63,19 @@ k w = levels (w .signature .length)
 abbrev stage : Matcher → ℕ → Stage
 stage w i = stageAt (w .stages) i
 
+-- A record's kind says its format.
+format-of-kind : (f : Format) → cond (eqb (checkpointKind f) (checkpointKind Narrow)) Narrow Wide ≡ f
+format-of-kind Narrow = refl
+format-of-kind Wide = refl
+
+least-two : (f : Format) → 2 ≤ checkpointLeast f
+least-two Narrow = omega arith
+least-two Wide = omega arith
+
 -- The values of the record's fields make the watch.
-module _ (w : Matcher) (fits : matcherFits w ≡ true) (shape : Shaped w) where
+module _ (f : Format) (w : Matcher) (fits : matcherFits w ≡ true) (sized : length (w .stages) ≡ stageCount) where
   fieldValues : List ℕ
-  fieldValues = values (recordFields (checkpointBody (k w) w))
+  fieldValues = values (recordFields (checkpointBody f (k w) w))
 
   stage-made :
       (i : ℕ) → i < k w → stageFrom (part (stagesPosition + i * stageFieldCount) stageFieldCount fieldValues) ≡ stage w i
@@ -76,13 +83,13 @@ module _ (w : Matcher) (fits : matcherFits w ≡ true) (shape : Shaped w) where
   stage-made i l =
       let card = w .signature in
       let front : List ℕ =
-      size (widths (checkpointBody (k w) w)) ∷ checkpointKind ∷ card .length
-      ∷ keyNumbers (card .key) ++ values (printFields (lastPrint card) ++ markFields (w .now))
+      size (widths (checkpointBody f (k w) w)) ∷ checkpointKind f ∷ card .length
+      ∷ keyNumbers (card .key) ++ values (printFields (lastPrint card) ++ markFields f (w .now))
       in
       ap stageFrom
       (ap (λ (l : List ℕ). part (stagesPosition + i * stageFieldCount) stageFieldCount (front ++ l))
-      (map-gathered (λ (f : Field). f .value) (stageFieldsOf (w .stages)) (k w))
-      ∙ part-gathered (λ i. values (stageFieldsOf (w .stages) i)) stageFieldCount (λ i. refl) front (k w) i _ l refl)
+      (map-gathered (λ (q : Field). q .value) (stageFieldsOf f (w .stages)) (k w))
+      ∙ part-gathered (λ i. values (stageFieldsOf f (w .stages) i)) stageFieldCount (λ i. refl) front (k w) i _ l refl)
 
   place-made : (i : ℕ) → i < stageCount → stage w i ≡ stagePlace fieldValues (k w) i
   place-made i l =
@@ -100,57 +107,70 @@ module _ (w : Matcher) (fits : matcherFits w ≡ true) (shape : Shaped w) where
       record {
         signature = w .signature;
         now = w .now;
-        stages = sym (tabulated _ stageCount noStage (w .stages) (shape .stages) place-made) q;
+        stages = sym (tabulated _ stageCount noStage (w .stages) sized place-made) q;
       }
 
-module _ (w : Matcher) (fits : matcherFits w ≡ true) (shape : Shaped w) (tail : List ℕ) where
-  values-back : parkedValues (w .signature) (checkpointRecord w ++ tail) ≡ fieldValues w fits shape
-  unfolding fieldValues checkpointWidths
-  values-back =
-      ap (λ (ws : List ℕ). valuesAt (checkpointRecord w ++ tail) 0 ws) (checkpoint-widths (k w) noMatcher ∙ sym (checkpoint-widths (k w) w))
-      ∙ fields-back [] (recordFields (checkpointBody (k w) w)) tail (watch-fields w fits (shape .now))
+module _
+    (f : Format)
+    (w : Matcher)
+    (fits : matcherFits w ≡ true)
+    (sized : length (w .stages) ≡ stageCount)
+    (said : canSay f (w .now .at) ≡ true)
+    (tail : List ℕ)
+  where
+    values-back : parkedValues f (w .signature) (checkpointRecord f w ++ tail) ≡ fieldValues f w fits sized
+    unfolding fieldValues checkpointWidths
+    values-back =
+        ap (λ (ws : List ℕ). valuesAt (checkpointRecord f w ++ tail) 0 ws)
+        (checkpoint-widths f (k w) noMatcher ∙ sym (checkpoint-widths f (k w) w))
+        ∙ fields-back [] (recordFields (checkpointBody f (k w) w)) tail (watch-fields f w fits said)
 
-  head-back :
-      (lengthField (checkpointRecord w ++ tail) ≡ size (widths (checkpointBody (k w) w)))
-      × (kindOf (checkpointRecord w ++ tail) ≡ checkpointKind)
-  unfolding valuesAt checkpointWidths checkpointBody fieldValues
-  head-back = (ap (λ (l : List ℕ). getD l 0 0) values-back, ap (λ (l : List ℕ). getD l 1 0) values-back)
+    head-back :
+        (lengthField (checkpointRecord f w ++ tail) ≡ size (widths (checkpointBody f (k w) w)))
+        × (kindOf (checkpointRecord f w ++ tail) ≡ checkpointKind f)
+    unfolding valuesAt checkpointWidths checkpointBody fieldValues
+    head-back = (ap (λ (l : List ℕ). getD l 0 0) values-back, ap (λ (l : List ℕ). getD l 1 0) values-back)
 
-  length-back : lengthField (checkpointRecord w ++ tail) ≡ checkpointLength (k w)
-  length-back = head-back .0 ∙ checkpoint-same (k w) w
+    length-back : lengthField (checkpointRecord f w ++ tail) ≡ checkpointLength f (k w)
+    length-back = head-back .0 ∙ checkpoint-same f (k w) w
 
-  matcher-back : matcherAt (w .signature) (checkpointRecord w ++ tail) ≡ w
-  unfolding matcherAt
-  matcher-back = ap (matcherFrom (w .signature)) values-back ∙ watch-made w fits shape
+    matcher-back : matcherAt f (w .signature) (checkpointRecord f w ++ tail) ≡ w
+    unfolding matcherAt
+    matcher-back = ap (matcherFrom (w .signature)) values-back ∙ watch-made f w fits sized
 
-  same-pattern : samePattern (w .signature) (checkpointRecord w ++ tail) ≡ true
-  unfolding samePattern fieldValues keyFrom printFrom checkpointBody keyNumbers printNumbers keyOf printOf
-  same-pattern =
-      let card = w .signature in
-      rw (values-back, eq-eqb (card .length) (card .length) refl, same-key-self (card .key), same-self (lastPrint card))
+    same-pattern : samePattern f (w .signature) (checkpointRecord f w ++ tail) ≡ true
+    unfolding samePattern fieldValues keyFrom printFrom checkpointBody keyNumbers printNumbers keyOf printOf
+    same-pattern =
+        let card = w .signature in
+        rw (values-back, eq-eqb (card .length) (card .length) refl, same-key-self (card .key), same-self (lastPrint card))
 
-  pub restore-accepted : restoreRefusal (w .signature) (checkpointRecord w ++ tail) ≡ 0
-  unfolding restoreRefusal
-  restore-accepted =
-      let bytes : List ℕ = checkpointRecord w ++ tail in
-      let n : ℕ = checkpointLength (k w) in
-      let size = length-append (checkpointRecord w) tail in
-      let long = checkpoint-length-is (k w) in
-      rw (
-        sound w fits .card,
-        head-accepted checkpointKind n checkpointLeast bytes (head-back .1) length-back (omega (arith, checkpoint-size w)) (omega arith)
-            (omega arith),
-        same-pattern,
-        length-back,
-        eq-eqb n n refl,
-        matcher-back,
-        fits,
-      )
+    pub format-back : formatOf (checkpointRecord f w ++ tail) ≡ f
+    format-back = rw (head-back .1) (format-of-kind f)
 
-  pub restore-back : restoredMatcher (w .signature) (checkpointRecord w ++ tail) ≡ w
-  unfolding restoredMatcher
-  restore-back = rw restore-accepted matcher-back
+    pub restore-accepted : restoreRefusal (w .signature) (checkpointRecord f w ++ tail) ≡ 0
+    unfolding restoreRefusal
+    restore-accepted =
+        let bytes : List ℕ = checkpointRecord f w ++ tail in
+        let n : ℕ = checkpointLength f (k w) in
+        let size = length-append (checkpointRecord f w) tail in
+        let long = checkpoint-length-is f (k w) in
+        let two = least-two f in
+        rw (
+          sound w fits .card,
+          format-back,
+          head-accepted (checkpointKind f) n (checkpointLeast f) bytes (head-back .1) length-back (omega (arith, checkpoint-size f w))
+              (omega arith) (omega arith),
+          same-pattern,
+          length-back,
+          eq-eqb n n refl,
+          matcher-back,
+          fits,
+        )
 
-  pub restore-took : restoreTaken (w .signature) (checkpointRecord w ++ tail) ≡ length (checkpointRecord w)
-  unfolding restoreTaken
-  restore-took = rw (restore-accepted, length-back) (sym (checkpoint-size w))
+    pub restore-back : restoredMatcher (w .signature) (checkpointRecord f w ++ tail) ≡ w
+    unfolding restoredMatcher
+    restore-back = rw (restore-accepted, format-back) matcher-back
+
+    pub restore-took : restoreTaken (w .signature) (checkpointRecord f w ++ tail) ≡ length (checkpointRecord f w)
+    unfolding restoreTaken
+    restore-took = rw (restore-accepted, length-back) (sym (checkpoint-size f w))

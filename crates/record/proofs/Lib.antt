@@ -9,3 +9,5 @@ mod Behind
 pub mod Refused
 pub mod SignatureRoundTrip
 pub mod CheckpointRoundTrip
+pub mod Accepted
+pub mod Formats

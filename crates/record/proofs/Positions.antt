@@ -13,6 +13,7 @@ use Rattle.signature.specs.declared.Signature.{Signature}
 use Rattle.signature.specs.Signature.{noSignature}
 use Rattle.stage.specs.Stage.{origin, noGap, noStage}
 use Rattle.matcher.specs.Matcher.{noMatcher}
+use Rattle.record.specs.declared.Format.{Format}
 use Rattle.record.specs.Layout.{
   keyFields,
   printFields,
@@ -22,6 +23,7 @@ use Rattle.record.specs.Layout.{
   patternLength,
   samePattern,
   wordWidth,
+  placeWidth,
   markFields,
   gapFields,
   stageFields,
@@ -39,8 +41,16 @@ use Rattle.record.specs.Layout.{
   stagesPosition,
   part,
 }
-use Rattle.record.specs.Places.{keyPlace, printSize, stageSize, printPlace, nowPlace, stagesPlace}
-use Rattle.record.proofs.Sizes.{signatureFront, checkpointFront, printWidths, stageWidths, signature-widths, checkpoint-widths}
+use Rattle.record.specs.Places.{keyPlace, printSize, markSize, stageSize, printPlace, nowPlace, stagesPlace}
+use Rattle.record.proofs.Sizes.{
+  signatureFront,
+  checkpointFront,
+  printWidths,
+  stageWidths,
+  signature-widths,
+  checkpoint-widths,
+  stage-size,
+}
 
 module _ (s : List ℕ) (k : ℕ) where
   pub print-place :
@@ -54,42 +64,45 @@ module _ (s : List ℕ) (k : ℕ) where
       ∙ values-gathered printWidths printSize (λ j. refl) s signatureFront printCount (k + 1) i _ _ (λ j. refl) (omega arith) refl
       (omega arith)
 
-  pub now-place : part nowPosition markCount (valuesAt s 0 (checkpointWidths k)) ≡ valuesAt s nowPlace (widths (markFields origin))
+module _ (f : Format) (s : List ℕ) (k : ℕ) where
+  pub now-place :
+      part nowPosition markCount (valuesAt s 0 (checkpointWidths f k)) ≡ valuesAt s nowPlace (widths (markFields f origin))
   unfolding valuesAt checkpointBody checkpointWidths keyNumbers printNumbers
   now-place = refl
 
   pub stage-place :
       (i : ℕ)
       → i < k
-      → part (stagesPosition + i * stageFieldCount) stageFieldCount (valuesAt s 0 (checkpointWidths k))
-      ≡ valuesAt s (stagesPlace + stageSize * i) (widths (stageFields noStage))
+      → part (stagesPosition + i * stageFieldCount) stageFieldCount (valuesAt s 0 (checkpointWidths f k))
+      ≡ valuesAt s (stagesPlace f + stageSize f * i) (widths (stageFields f noStage))
   unfolding size keyNumbers printNumbers checkpointWidths
   stage-place i l =
-      ap (λ (ws : List ℕ). part (stagesPosition + i * stageFieldCount) stageFieldCount (valuesAt s 0 ws)) (checkpoint-widths k noMatcher)
-      ∙ values-gathered stageWidths stageSize (λ j. refl) s checkpointFront stageFieldCount k i _ _ (λ j. refl) l refl (omega arith)
+      ap (λ (ws : List ℕ). part (stagesPosition + i * stageFieldCount) stageFieldCount (valuesAt s 0 ws)) (checkpoint-widths f k noMatcher)
+      ∙ values-gathered (stageWidths f) (stageSize f) (λ j. stage-size f noStage) s (checkpointFront f) stageFieldCount k i _ _
+      (λ j. refl) l refl (omega arith)
 
 -- The parts of a stage stand one behind another.
 pub stage-parts :
-    (s : List ℕ) (at : ℕ)
-    → stageFrom (valuesAt s at (widths (stageFields noStage)))
+    (f : Format) (s : List ℕ) (at : ℕ)
+    → stageFrom (valuesAt s at (widths (stageFields f noStage)))
     ≡ record {
       held = numberAt s at wordWidth;
-      first = markFrom (valuesAt s (at + 4) (widths (markFields origin)));
-      last = markFrom (valuesAt s (at + 12) (widths (markFields origin)));
-      step = gapFrom (valuesAt s (at + 20) (widths (gapFields noGap)));
+      first = markFrom (valuesAt s (at + wordWidth) (widths (markFields f origin)));
+      last = markFrom (valuesAt s (at + wordWidth + markSize f) (widths (markFields f origin)));
+      step = gapFrom (valuesAt s (at + wordWidth + 2 * markSize f) (widths (gapFields noGap)));
     }
 unfolding valuesAt stageFrom markFrom gapFrom printNumbers
-stage-parts s at =
-    let last : at + 12 ≡ at + 4 + 4 + 4 = omega arith in
-    let step : at + 20 ≡ at + 4 + 4 + 4 + 4 + 4 = omega arith in
+stage-parts f s at =
+    let last : at + wordWidth + markSize f ≡ at + wordWidth + placeWidth f + printSize = omega arith in
+    let step : at + wordWidth + 2 * markSize f ≡ at + wordWidth + placeWidth f + printSize + placeWidth f + printSize = omega arith in
     rw (last, step)
 
 -- "m, r or last fingerprint differs from the card": where they stand.
 pub pattern-tests :
-    (card : Signature) (s : List ℕ)
-    → samePattern card s
+    (f : Format) (card : Signature) (s : List ℕ)
+    → samePattern f card s
     ≡ eqb (patternLength s) (card .length)
     && sameKey (keyOf (valuesAt s keyPlace (widths (keyFields noKey)))) (card .key)
     && same (printOf (valuesAt s printPlace (widths (printFields empty)))) (lastPrint card)
 unfolding samePattern keyFrom printFrom valuesAt checkpointWidths checkpointBody keyNumbers printNumbers
-pattern-tests card s = refl
+pattern-tests f card s = refl

@@ -2,19 +2,19 @@
 -- Assumes nothing.
 use Prim.Native.Nat.{ℕ}
 use mathlib.Core.Path.{_≡_}
-use mathlib.Core.Bool.{Bool}
 use mathlib.Core.List.{List}
 use native.Mathlib.Nat.{add-zero}
 use lib.ListN.{take-append-drop}
 use borrow.Author.Tests.{ne-eqb}
 use Rattle.matcher.specs.declared.Matcher.{Matcher}
+use Rattle.record.specs.declared.Format.{Format}
 use Rattle.record.specs.Calls.{putRefusal, putBuffer, behindRefusal, behindUsed, behindBuffer}
 
-pub refused-put : (fits : Bool) (bytes entry : List ℕ) → (putRefusal fits bytes entry ≡ 0 → ⊥) → putBuffer fits bytes entry ≡ entry
-refused-put fits bytes entry refused = rw (ne-eqb _ _ refused)
+pub refused-put : (judged : ℕ) (bytes entry : List ℕ) → (putRefusal judged bytes entry ≡ 0 → ⊥) → putBuffer judged bytes entry ≡ entry
+refused-put judged bytes entry refused = rw (ne-eqb _ _ refused)
 
 pub refused-behind :
-    (w : Matcher) (entry : List ℕ) (used : ℕ)
-    → (behindRefusal w entry used ≡ 0 → ⊥)
-    → (behindBuffer w entry used ≡ entry) × (behindUsed w entry used ≡ used)
-refused-behind w entry used refused = rw (ne-eqb _ _ refused) (take-append-drop used entry, add-zero used)
+    (f : Format) (w : Matcher) (entry : List ℕ) (used : ℕ)
+    → (behindRefusal f w entry used ≡ 0 → ⊥)
+    → (behindBuffer f w entry used ≡ entry) × (behindUsed f w entry used ≡ used)
+refused-behind f w entry used refused = rw (ne-eqb _ _ refused) (take-append-drop used entry, add-zero used)

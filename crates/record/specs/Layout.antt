@@ -19,6 +19,8 @@ use Rattle.matcher.specs.declared.Matcher.{Matcher}
 use Rattle.stage.specs.Stage.{origin, noGap, noStage}
 use Rattle.stage.specs.Stages.{Stages, stageCount, stageAt}
 use Rattle.matcher.specs.Matcher.{noMatcher}
+use Rattle.record.specs.declared.Format.{Format}
+use Rattle.record.specs.declared.Format.the-variants.{Narrow, Wide}
 
 -- "Length (4 bytes) of what follows it, kind (2 bytes), then fields of 4 bytes."
 abbrev pub lengthWidth : ℕ
@@ -43,12 +45,21 @@ words numbers = map word numbers
 abbrev pub recordFields : List Field → List Field
 recordFields behind = record { width = lengthWidth; value = size (widths behind) } ∷ behind
 
--- "Cards become kind 3 and parked watches kind 4" (document 02, A.4).
+-- "Cards become kind 3 and parked watches kind 4" (document 02, A.4); "the wide parked record is kind 5" (A.5).
 abbrev pub signatureKind : ℕ
 signatureKind = 3
 
-abbrev pub checkpointKind : ℕ
-checkpointKind = 4
+abbrev pub checkpointKind : Format → ℕ
+checkpointKind Narrow = 4
+checkpointKind Wide = 5
+
+-- The wide parked record is "with t, first and last in 8 bytes and the other fields in 4"; a narrow one has them all in 4.
+abbrev pub placeWidth : Format → ℕ
+placeWidth Narrow = 4
+placeWidth Wide = 8
+
+abbrev pub place : Format → ℕ → Field
+place f n = record { width = placeWidth f; value = n }
 
 -- The fields of a key and of a fingerprint, and of what holds them.
 abbrev pub keyFields : Key → List Field
@@ -57,15 +68,15 @@ keyFields key = words (keyNumbers key)
 abbrev pub printFields : Fingerprint → List Field
 printFields f = words (printNumbers f)
 
-abbrev pub markFields : Mark → List Field
-markFields mark = word (mark .at) ∷ printFields (mark .print)
+abbrev pub markFields : Format → Mark → List Field
+markFields f mark = place f (mark .at) ∷ printFields (mark .print)
 
 abbrev pub gapFields : Gap → List Field
 gapFields gap = word (gap .length) ∷ printFields (gap .print)
 
 -- "held, first, F_first, last, F_last, step, step print"
-abbrev pub stageFields : Stage → List Field
-stageFields s = word (s .held) ∷ markFields (s .first) ++ markFields (s .last) ++ gapFields (s .step)
+abbrev pub stageFields : Format → Stage → List Field
+stageFields f s = word (s .held) ∷ markFields f (s .first) ++ markFields f (s .last) ++ gapFields (s .step)
 
 -- the last fingerprint of a card, that of P_k
 abbrev pub lastPrint : Signature → Fingerprint
@@ -75,8 +86,8 @@ lastPrint s = getD (s .prints) (levels (s .length)) empty
 abbrev pub printFieldsOf : List Fingerprint → ℕ → List Field
 printFieldsOf prints i = printFields (getD prints i empty)
 
-abbrev pub stageFieldsOf : Stages → ℕ → List Field
-stageFieldsOf stages i = stageFields (stageAt stages i)
+abbrev pub stageFieldsOf : Format → Stages → ℕ → List Field
+stageFieldsOf f stages i = stageFields f (stageAt stages i)
 
 -- What follows the length field, for k stages. A card: "m, r, the k + 1 fingerprints".
 unfoldable pub signatureBody : ℕ → Signature → List Field
@@ -84,32 +95,32 @@ signatureBody k s =
     kindField signatureKind ∷ word (s .length) ∷ keyFields (s .key) ++ gathered (printFieldsOf (s .prints)) (k + 1)
 
 -- A parked watch: "m, r, fingerprint of P_k, t, F_t, then stages 0 .. k-1, seven fields each in the order above".
-unfoldable pub checkpointBody : ℕ → Matcher → List Field
-checkpointBody k w =
-    kindField checkpointKind ∷ word (w .signature .length) ∷ keyFields (w .signature .key)
+unfoldable pub checkpointBody : Format → ℕ → Matcher → List Field
+checkpointBody f k w =
+    kindField (checkpointKind f) ∷ word (w .signature .length) ∷ keyFields (w .signature .key)
     ++ printFields (lastPrint (w .signature))
-    ++ markFields (w .now)
-    ++ gathered (stageFieldsOf (w .stages)) k
+    ++ markFields f (w .now)
+    ++ gathered (stageFieldsOf f (w .stages)) k
 
 -- The record of a card, and that of a parked watch.
 abbrev pub signatureRecord : Signature → List ℕ
 signatureRecord s = bytesOf (recordFields (signatureBody (levels (s .length)) s))
 
-abbrev pub checkpointRecord : Matcher → List ℕ
-checkpointRecord w = bytesOf (recordFields (checkpointBody (levels (w .signature .length)) w))
+abbrev pub checkpointRecord : Format → Matcher → List ℕ
+checkpointRecord f w = bytesOf (recordFields (checkpointBody f (levels (w .signature .length)) w))
 
 -- The widths of their fields and what the length field says, for k stages: the same for every card and every watch.
 unfoldable pub signatureWidths : ℕ → List ℕ
 signatureWidths k = widths (recordFields (signatureBody k noSignature))
 
-unfoldable pub checkpointWidths : ℕ → List ℕ
-checkpointWidths k = widths (recordFields (checkpointBody k noMatcher))
+unfoldable pub checkpointWidths : Format → ℕ → List ℕ
+checkpointWidths f k = widths (recordFields (checkpointBody f k noMatcher))
 
 unfoldable pub signatureLength : ℕ → ℕ
 signatureLength k = size (widths (signatureBody k noSignature))
 
-unfoldable pub checkpointLength : ℕ → ℕ
-checkpointLength k = size (widths (checkpointBody k noMatcher))
+unfoldable pub checkpointLength : Format → ℕ → ℕ
+checkpointLength f k = size (widths (checkpointBody f k noMatcher))
 
 -- What stands at the front of every record: the length field, the kind and m.
 abbrev pub lengthField : List ℕ → ℕ
@@ -121,7 +132,8 @@ kindOf s = numberAt s lengthWidth kindWidth
 abbrev pub patternLength : List ℕ → ℕ
 patternLength s = numberAt s (lengthWidth + kindWidth) wordWidth
 
--- How many fields a key, a fingerprint, a mark, a gap and a stage have, and which fields of a record are which: length and kind first.
+-- How many fields a key, a fingerprint, a mark, a gap and a stage have, in wide records as in narrow ones, and which fields of a record
+-- are which: length and kind first.
 abbrev pub keyCount : ℕ
 keyCount = length (keyFields noKey)
 
@@ -129,13 +141,13 @@ abbrev pub printCount : ℕ
 printCount = length (printFields empty)
 
 abbrev pub markCount : ℕ
-markCount = length (markFields origin)
+markCount = length (markFields Wide origin)
 
 abbrev pub gapCount : ℕ
 gapCount = length (gapFields noGap)
 
 abbrev pub stageFieldCount : ℕ
-stageFieldCount = length (stageFields noStage)
+stageFieldCount = length (stageFields Wide noStage)
 
 abbrev pub mPosition : ℕ
 mPosition = 2
@@ -194,14 +206,14 @@ unfoldable pub signatureAt : List ℕ → Signature
 signatureAt s = signatureFrom (levels (patternLength s)) (valuesAt s 0 (signatureWidths (levels (patternLength s))))
 
 -- The values of a parked watch's record under a card, and whether they have the card's m, r and last fingerprint.
-abbrev pub parkedValues : Signature → List ℕ → List ℕ
-parkedValues card s = valuesAt s 0 (checkpointWidths (levels (card .length)))
+abbrev pub parkedValues : Format → Signature → List ℕ → List ℕ
+parkedValues f card s = valuesAt s 0 (checkpointWidths f (levels (card .length)))
 
-unfoldable pub samePattern : Signature → List ℕ → Bool
-samePattern card s =
-    eqb (getD (parkedValues card s) mPosition 0) (card .length)
-    && sameKey (keyFrom (parkedValues card s)) (card .key)
-    && same (printFrom (parkedValues card s) 0) (lastPrint card)
+unfoldable pub samePattern : Format → Signature → List ℕ → Bool
+samePattern f card s =
+    eqb (getD (parkedValues f card s) mPosition 0) (card .length)
+    && sameKey (keyFrom (parkedValues f card s)) (card .key)
+    && same (printFrom (parkedValues f card s) 0) (lastPrint card)
 
 -- The watch that they make under the card: nothing listed past stage k-1.
 abbrev pub stagePlace : List ℕ → ℕ → ℕ → Stage
@@ -216,5 +228,5 @@ matcherFrom card values =
       stages = tabulate (stagePlace values (levels (card .length))) stageCount;
     }
 
-unfoldable pub matcherAt : Signature → List ℕ → Matcher
-matcherAt card s = matcherFrom card (parkedValues card s)
+unfoldable pub matcherAt : Format → Signature → List ℕ → Matcher
+matcherAt f card s = matcherFrom card (parkedValues f card s)

@@ -54,6 +54,12 @@ pub const SIGNATURE_KIND: u64 = 3;
 
 pub const SIGNATURE_LEAST: u64 = 10;
 
+// The two records of a parked watch: a wide one has places of the stream in 8 bytes, a narrow one in 4.
+pub enum Format {
+    Narrow,
+    Wide,
+}
+
 // What a writer hands back: the bytes used, 0 where the call is refused; behind a used part, the new used length, the old one where the
 // call is refused.
 pub struct Written {

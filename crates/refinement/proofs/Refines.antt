@@ -126,7 +126,7 @@ module _ (card : Signature) (card-fits : signatureFits card ≡ true) where
 
     accepted : length h < maxTaken → strokeRefusal (watchOf card h) ≡ 0
     unfolding watchOf
-    accepted l = rw (fits card card-fits h, lt-ltb (length h) maxTaken l)
+    accepted l = rw (fits card card-fits h (omega arith), lt-ltb (length h) maxTaken l)
 
     watch-after :
         record {

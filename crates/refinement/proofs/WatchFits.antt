@@ -1,6 +1,6 @@
 -- The watch of a history over a card that is no misfit is none, and that of no bytes is the fresh one.
 -- Assumes nothing.
-use Prim.Native.Nat.{ℕ, suc, _<_}
+use Prim.Native.Nat.{ℕ, suc, _≤_, _<_}
 use mathlib.Core.Path.{_≡_, refl, sym, _∙_}
 use mathlib.Core.Logic.{inl, inr}
 use mathlib.Core.Bool.{true}
@@ -21,6 +21,7 @@ use Rattle.ladder.proofs.Stages.{after-staged}
 use Rattle.ladder.proofs.Even.{Even, even-last, after-even}
 use Rattle.signature.specs.declared.Signature.{Signature}
 use Rattle.signature.specs.Signature.{signatureFits}
+use Rattle.stage.specs.Stage.{maxTaken}
 use Rattle.stage.specs.Stages.{noStages}
 use Rattle.stage.proofs.Stages.{stages-same, whole-none, no-stage-at, whole-of, stage-of}
 use Rattle.matcher.specs.Matcher.{matcherFits, freshRefusal, blank, fresh}
@@ -80,11 +81,12 @@ module _ (card : Signature) (card-fits : signatureFits card ≡ true) where
   sound : SoundCard card
   sound = sound-card card card-fits
 
-  pub fits : (h : List ℕ) → matcherFits (watchOf card h) ≡ true
+  pub fits : (h : List ℕ) → length h ≤ maxTaken → matcherFits (watchOf card h) ≡ true
   unfolding watchOf extended
-  fits h =
+  fits h within =
       sound-fits (watchOf card h) (record {
         card = card-fits;
+        within = within;
         print = fp-below (card .key) (take (length h) h);
         starts = λ z. rw z;
         stage =

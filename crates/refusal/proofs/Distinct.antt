@@ -6,7 +6,7 @@ use mathlib.Core.Bool.{cond}
 use native.Mathlib.Omega.{arith}
 use lib.Dec.{eqb}
 use Rattle.refusal.specs.declared.Refusal.{Refusal}
-use Rattle.refusal.specs.declared.Refusal.the-variants.{Empty, Overlong, Key, Unfinished, Surplus, Spent, NoSpace, Short, Kind, Misfit, OtherPassage, Full, NameTaken, NameAbsent, NoTrack, Broken, OutsideBells}
+use Rattle.refusal.specs.declared.Refusal.the-variants.{Empty, Overlong, Key, Unfinished, Surplus, Spent, NoSpace, Short, Kind, Misfit, OtherPassage, Full, NameTaken, NameAbsent, NoTrack, Broken, OutsideBells, TooWide}
 use Rattle.refusal.specs.declared.Verdict.{Verdict}
 use Rattle.refusal.specs.declared.Verdict.the-variants.{Accepted, Refused}
 use Rattle.refusal.specs.Number.{number}
@@ -30,7 +30,8 @@ verdictOf n =
     (cond (eqb n 15) (Refused NoTrack)
     (cond (eqb n 16) (Refused Broken)
     (cond (eqb n 17) (Refused OutsideBells)
-    Accepted))))))))))))))))
+    (cond (eqb n 18) (Refused TooWide)
+    Accepted)))))))))))))))))
 
 told : (v : Verdict) → verdictOf (number v) ≡ v
 unfolding verdictOf
@@ -52,6 +53,7 @@ told (Refused NameAbsent) = refl
 told (Refused NoTrack) = refl
 told (Refused Broken) = refl
 told (Refused OutsideBells) = refl
+told (Refused TooWide) = refl
 
 pub number-injective : (v u : Verdict) → number v ≡ number u → v ≡ u
 number-injective v u e = sym (told v) ∙ ap verdictOf e ∙ told u

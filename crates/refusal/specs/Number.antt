@@ -1,7 +1,7 @@
 -- Document 01's number for every refusal ("The board's refusals"). Contracts speak of verdicts by these numbers.
 use Prim.Native.Nat.{ℕ}
 use Rattle.refusal.specs.declared.Refusal.{Refusal}
-use Rattle.refusal.specs.declared.Refusal.the-variants.{Empty, Overlong, Key, Unfinished, Surplus, Spent, NoSpace, Short, Kind, Misfit, OtherPassage, Full, NameTaken, NameAbsent, NoTrack, Broken, OutsideBells}
+use Rattle.refusal.specs.declared.Refusal.the-variants.{Empty, Overlong, Key, Unfinished, Surplus, Spent, NoSpace, Short, Kind, Misfit, OtherPassage, Full, NameTaken, NameAbsent, NoTrack, Broken, OutsideBells, TooWide}
 use Rattle.refusal.specs.declared.Verdict.{Verdict}
 use Rattle.refusal.specs.declared.Verdict.the-variants.{Accepted, Refused}
 
@@ -23,6 +23,7 @@ refusalNumber NameAbsent = 14
 refusalNumber NoTrack = 15
 refusalNumber Broken = 16
 refusalNumber OutsideBells = 17
+refusalNumber TooWide = 18
 
 -- 0 says that the call was accepted.
 abbrev pub number : Verdict → ℕ

@@ -20,6 +20,7 @@ pub enum Refusal {
     NoTrack,
     Broken,
     OutsideBells,
+    TooWide,
 }
 
 // What a call says of itself: it was carried out, or it was refused and changed nothing.
@@ -50,6 +51,7 @@ impl Refusal {
             Refusal::NoTrack => 15,
             Refusal::Broken => 16,
             Refusal::OutsideBells => 17,
+            Refusal::TooWide => 18,
         }
     }
 }

@@ -32,7 +32,7 @@ use stage::Stage;
 // What buffers hold before a call, and how many bytes they have.
 pub const FILLER: u8 = 170;
 
-pub const ROOM: usize = 600;
+pub const ROOM: usize = 800;
 
 // A watch of a card that has taken nothing.
 fn blank(signature: Signature) -> Matcher {

@@ -1,4 +1,5 @@
 // Values with one number replaced, each number by its place.
+use crate::bytes::low;
 use fingerprint::Fingerprint;
 use fingerprint::Key;
 use matcher::Matcher;
@@ -20,37 +21,39 @@ pub const RUNNING: u32 = 3;
 pub const PRINTS: u32 = 4;
 
 // Places of a watch: t, F_t, and the seven numbers of each stage from its first place on.
-pub const T: u32 = 0;
+pub const T: u64 = 0;
 
-pub const F_T: u32 = 1;
+pub const F_T: u64 = 1;
 
-pub const STAGE_0: u32 = 2;
+pub const STAGE_0: u64 = 2;
 
-pub const STAGE_1: u32 = 9;
+pub const STAGE_1: u64 = 9;
 
-pub const STAGE_2: u32 = 16;
+pub const STAGE_2: u64 = 16;
 
-pub const STAGE_3: u32 = 23;
+pub const STAGE_3: u64 = 23;
 
-pub const STAGE_4: u32 = 30;
+pub const STAGE_4: u64 = 30;
 
-pub const STAGE_19: u32 = 135;
+pub const STAGE_19: u64 = 135;
 
-pub const HELD: u32 = 0;
+pub const HELD: u64 = 0;
 
-pub const FIRST: u32 = 1;
+pub const FIRST: u64 = 1;
 
-pub const F_FIRST: u32 = 2;
+pub const F_FIRST: u64 = 2;
 
-pub const LAST: u32 = 3;
+pub const LAST: u64 = 3;
 
-pub const F_LAST: u32 = 4;
+pub const F_LAST: u64 = 4;
 
-pub const STEP: u32 = 5;
+pub const STEP: u64 = 5;
 
-pub const STEP_PRINT: u32 = 6;
+pub const STEP_PRINT: u64 = 6;
 
-// No place: nothing is replaced.
+// No place of a watch, and none of a card: nothing is replaced.
+pub const NOWHERE: u64 = 999;
+
 pub const NONE: u32 = 999;
 
 // One of two numbers.
@@ -99,27 +102,32 @@ pub(crate) fn changed_card(s: Signature, place: u32, value: u32) -> Signature {
     }
 }
 
+// One of two places of the stream.
+fn pick_place(chosen: bool, value: u64, other: u64) -> u64 {
+    if chosen { value } else { other }
+}
+
 // A stage with one of its seven numbers replaced.
-fn changed_stage(s: Stage, field: u32, value: u32) -> Stage {
+fn changed_stage(s: Stage, field: u64, value: u64) -> Stage {
     Stage {
-        held: pick(field == HELD, value, s.held),
+        held: pick(field == HELD, low(value), s.held),
         first: Mark {
-            at: pick(field == FIRST, value, s.first.at),
-            print: picked(field == F_FIRST, value, s.first.print),
+            at: pick_place(field == FIRST, value, s.first.at),
+            print: picked(field == F_FIRST, low(value), s.first.print),
         },
         last: Mark {
-            at: pick(field == LAST, value, s.last.at),
-            print: picked(field == F_LAST, value, s.last.print),
+            at: pick_place(field == LAST, value, s.last.at),
+            print: picked(field == F_LAST, low(value), s.last.print),
         },
         step: Gap {
-            length: pick(field == STEP, value, s.step.length),
-            print: picked(field == STEP_PRINT, value, s.step.print),
+            length: pick(field == STEP, low(value), s.step.length),
+            print: picked(field == STEP_PRINT, low(value), s.step.print),
         },
     }
 }
 
 // The stages of a watch, where the place is one of theirs.
-fn changed_stages(before: [Stage; 20], place: u32, value: u32) -> [Stage; 20] {
+fn changed_stages(before: [Stage; 20], place: u64, value: u64) -> [Stage; 20] {
     let mut stages = before;
     if place < STAGE_0 {
         return stages;
@@ -133,15 +141,15 @@ fn changed_stages(before: [Stage; 20], place: u32, value: u32) -> [Stage; 20] {
 }
 
 // A watch with the number at a place replaced.
-pub(crate) fn changed_watch(w: Matcher, place: u32, value: u32) -> Matcher {
+pub(crate) fn changed_watch(w: Matcher, place: u64, value: u64) -> Matcher {
     let before = w.stages;
     let signature = w.signature;
     let stages = changed_stages(before, place, value);
     Matcher {
         signature,
         now: Mark {
-            at: pick(place == T, value, w.now.at),
-            print: picked(place == F_T, value, w.now.print),
+            at: pick_place(place == T, value, w.now.at),
+            print: picked(place == F_T, low(value), w.now.print),
         },
         stages,
     }

@@ -58,12 +58,19 @@ pub(crate) fn same_matcher(a: Matcher, b: Matcher) -> bool {
     same_signature(a.signature, b.signature) && same_mark(a.now, b.now) && same_stages(x, y)
 }
 
-// A ring as a number: 0, or one more than its start.
-fn ring_number(ring: Ring) -> u64 {
+// The start that rang, 0 if none did.
+fn start_of(ring: Ring) -> u64 {
     if let Ring::At(start) = ring {
-        return start as u64 + 1;
+        return start;
     }
     0
+}
+
+fn rings(ring: Ring) -> bool {
+    if let Ring::At(start) = ring {
+        return true;
+    }
+    false
 }
 
 fn same_set(a: Progression, b: Progression) -> bool {
@@ -87,6 +94,6 @@ pub(crate) fn same_answer(a: Answer, b: Answer) -> bool {
     let y = b.sets;
     let heard = a.ring;
     let other = b.ring;
-    let same_ring = ring_number(heard) == ring_number(other);
+    let same_ring = rings(heard) == rings(other) && start_of(heard) == start_of(other);
     same_ring && a.asides == b.asides && a.comparisons == b.comparisons && same_sets(x, y)
 }

@@ -5,13 +5,13 @@ use refusal::Verdict;
 // Where failed checks are counted; a refusal is counted at its number, and accepted calls behind them.
 pub const FAILURES: usize = 0;
 
-pub const ACCEPTED: usize = 12;
+pub const ACCEPTED: usize = 19;
 
 // A digest of the numbers in the order in which they were met.
-pub const DIGEST: usize = 13;
+pub const DIGEST: usize = 20;
 
 // How many counters there are.
-pub const PLACES: usize = 14;
+pub const PLACES: usize = 21;
 
 // The counter at a place, 0 past the end.
 pub(crate) fn count(tally: &[u32], i: usize) -> u32 {
@@ -38,7 +38,7 @@ fn place_of(number: u32) -> usize {
     if number == 0 {
         return ACCEPTED;
     }
-    if number < 12 {
+    if number < 19 {
         number as usize
     } else {
         FAILURES
@@ -81,7 +81,7 @@ fn say_count(number: u32, n: u32) {
 // How often each refusal was met.
 fn say_refusals(tally: &[u32]) {
     let mut i: u32 = 1;
-    while i < 12 {
+    while i < 19 {
         say_count(i, count(tally, i as usize));
         i = i + 1;
     }
@@ -96,7 +96,7 @@ pub(crate) fn say_counts(tally: &[u32]) {
 // Adds the counts of one tally to another.
 pub(crate) fn gather(from: &[u32], tally: &mut [u32]) {
     let mut i: usize = 0;
-    while i < 13 {
+    while i < DIGEST {
         add(tally, i, count(from, i));
         i = i + 1;
     }

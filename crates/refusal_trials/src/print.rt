@@ -5,6 +5,38 @@ pub(crate) fn words(text: &[u8]) {
     io::write_all(1, text);
 }
 
+// Words, and a number behind them.
+pub(crate) fn item(text: &[u8], n: u64) {
+    io::write_all(1, text);
+    io::print_decimal(1, n);
+}
+
+// The first word of a line: which of the two records.
+pub(crate) fn say_form(narrow: bool) {
+    if narrow {
+        words(b"narrow");
+    } else {
+        words(b"wide");
+    }
+}
+
+// One of the sixteen digits.
+fn digit(n: u8) {
+    let digits = b"0123456789abcdef";
+    io::write_all(1, &[digits[(n % 16) as usize]]);
+}
+
+// Bytes in hexadecimal, to the end of a line.
+pub(crate) fn hex(bytes: &[u8]) {
+    let mut i: usize = 0;
+    while i < bytes.len() {
+        digit(bytes[i] / 16);
+        digit(bytes[i]);
+        i = i + 1;
+    }
+    words(b"\n");
+}
+
 // The number at a place, 0 past the end.
 fn number(numbers: &[u32], i: usize) -> u32 {
     if i < numbers.len() { numbers[i] } else { 0 }

@@ -3,6 +3,8 @@ use crate::bytes::at;
 use crate::bytes::front;
 use crate::bytes::plus;
 use crate::bytes::put;
+use crate::calls::LAST_NARROW_T;
+use crate::calls::save_in;
 use crate::cards::FILLER;
 use crate::cards::ROOM;
 use crate::cards::card_of;
@@ -15,20 +17,21 @@ use crate::meeting::gather;
 use crate::meeting::mix;
 use crate::meeting::say_counts;
 use crate::meeting::tell;
+use crate::print::item;
 use crate::print::say;
+use crate::print::say_form;
 use crate::print::words;
-use crate::watches::watch;
+use crate::watches::late;
 use matcher::Matcher;
 use record::SignatureRead;
 use record::checkpoint::Restored;
 use record::checkpoint::restore;
-use record::checkpoint::save;
 use record::read_signature;
 use record::write_signature;
 use signature::Signature;
 
 // Whether two buffers are the same, byte for byte.
-fn same_bytes(a: &[u8], b: &[u8]) -> bool {
+pub(crate) fn same_bytes(a: &[u8], b: &[u8]) -> bool {
     let mut i: usize = 0;
     while i < a.len() {
         if a[i] != at(b, i) {
@@ -49,7 +52,7 @@ fn card_stands(card: Signature, taken: usize, buffer: &[u8]) -> bool {
 // Whether a watch is what stands in the buffer's first bytes.
 fn watch_stands(w: Matcher, taken: usize, buffer: &[u8]) -> bool {
     let mut copy = [FILLER; ROOM];
-    let written = save(w, &mut copy);
+    let written = save_in(w, at(buffer, 4) == 4, &mut copy);
     written.used == taken && same_bytes(front(&copy, taken), front(buffer, taken))
 }
 
@@ -155,15 +158,36 @@ fn card(m: u32, tally: &mut [u32]) {
     every_byte(card, true, &mut buffer, written.used, tally);
 }
 
-// The record of a watch of m bytes after so many ones. A row: m, how many.
-fn parked(row: [u32; 2], tally: &mut [u32]) {
-    let card = card_of(row[0]);
+// The front of a line.
+fn say_watch(w: Matcher, narrow: bool) {
+    say_form(narrow);
+    say(b" record of #", &[w.signature.length]);
+    item(b" at ", w.now.at);
+}
+
+// A record of a watch.
+fn parked_in(w: Matcher, narrow: bool, tally: &mut [u32]) {
+    let card = w.signature;
     let mut buffer = [FILLER; ROOM];
-    let written = save(watch(row[0], row[1]), &mut buffer);
-    say(b"watch record of # at #", &row);
+    let written = save_in(w, narrow, &mut buffer);
+    say_watch(w, narrow);
     every_front(card, false, &buffer, written.used, tally);
-    say(b"watch record of # at #", &row);
+    say_watch(w, narrow);
     every_byte(card, false, &mut buffer, written.used, tally);
+}
+
+// The narrow one, if it can say t.
+fn parked_narrow(w: Matcher, tally: &mut [u32]) {
+    if w.now.at <= LAST_NARROW_T {
+        parked_in(w, true, tally);
+    }
+}
+
+// The records of a watch of m bytes that listed nothing at t, so many ones later.
+fn parked(m: u32, t: u64, taken: u32, tally: &mut [u32]) {
+    let w = late(m, t, taken);
+    parked_narrow(w, tally);
+    parked_in(w, false, tally);
 }
 
 // The shortest card, one whose length is no power of two, and the longest.
@@ -175,9 +199,17 @@ pub(crate) fn cards(tally: &mut [u32]) {
 
 // Watches with no stage, fresh and not; with stages that list none, one or more.
 pub(crate) fn watches(tally: &mut [u32]) {
-    parked([1, 0], tally);
-    parked([1, 6], tally);
-    parked([5, 3], tally);
-    parked([16, 6], tally);
-    parked([64, 50], tally);
+    parked(1, 0, 0, tally);
+    parked(1, 0, 6, tally);
+    parked(5, 0, 3, tally);
+    parked(16, 0, 6, tally);
+    parked(64, 0, 50, tally);
+}
+
+// The same late.
+pub(crate) fn late_watches(tally: &mut [u32]) {
+    parked(1, 4294967289, 6, tally);
+    parked(16, 4294967293, 6, tally);
+    parked(1, 1099511627769, 6, tally);
+    parked(5, 1099511627772, 3, tally);
 }

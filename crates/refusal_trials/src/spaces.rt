@@ -2,24 +2,31 @@
 use crate::bytes::all_are;
 use crate::bytes::behind;
 use crate::bytes::front;
+use crate::bytes::low;
 use crate::bytes::minus;
 use crate::bytes::plus;
+use crate::calls::LAST_T;
+use crate::calls::number_for;
 use crate::calls::resumes_as;
+use crate::calls::save_in_behind;
 use crate::cards::FILLER;
 use crate::cards::ROOM;
 use crate::cards::card_of;
+use crate::changes::pick;
 use crate::compare::same_signature;
 use crate::meeting::PLACES;
 use crate::meeting::gather;
 use crate::meeting::meet;
 use crate::meeting::say_counts;
 use crate::meeting::tell;
+use crate::print::item;
 use crate::print::say;
+use crate::print::say_form;
 use crate::print::words;
+use crate::watches::late;
 use crate::watches::watch;
 use matcher::Matcher;
 use record::Written;
-use record::checkpoint::save_behind;
 use record::read_signature;
 use record::write_signature;
 use signature::Signature;
@@ -33,11 +40,11 @@ fn write_in(card: Signature, buffer: &mut [u8], n: usize) -> Written {
 }
 
 // A watch is parked in the first n bytes of a buffer, behind a used part.
-fn park_in(w: Matcher, buffer: &mut [u8], n: usize, used: usize) -> Written {
+fn park_in(w: Matcher, narrow: bool, buffer: &mut [u8], n: usize, used: usize) -> Written {
     if n <= buffer.len() {
-        return save_behind(w, &mut buffer[0..n], used);
+        return save_in_behind(w, narrow, &mut buffer[0..n], used);
     }
-    save_behind(w, buffer, used)
+    save_in_behind(w, narrow, buffer, used)
 }
 
 // The number that a record of so many bytes meets in n bytes of which so many are used.
@@ -94,11 +101,17 @@ fn write(card: Signature, size: usize, n: usize, tally: &mut [u32]) {
     tell(verdict.number(), number, holds, tally);
 }
 
+// The number that a parking meets in any space: a misfit's, or that of a t which a narrow record cannot say; else 0.
+fn number_before(w: Matcher, narrow: bool) -> u32 {
+    number_for(w, narrow, pick(LAST_T < w.now.at, 10, 0))
+}
+
 // A watch, whose record has this size, is parked in n bytes behind a used part.
-fn park(w: Matcher, size: usize, n: usize, used: usize, tally: &mut [u32]) {
+fn park(w: Matcher, narrow: bool, size: usize, n: usize, used: usize, tally: &mut [u32]) {
     let mut buffer = [FILLER; ROOM];
-    let number = number_in(size, n, used);
-    let written = park_in(w, &mut buffer, n, used);
+    let first = number_before(w, narrow);
+    let number = pick(first == 0, number_in(size, n, used), first);
+    let written = park_in(w, narrow, &mut buffer, n, used);
     let verdict = written.verdict;
     let holds = left_watch(w, size, used, number, written.used, &buffer);
     tell(verdict.number(), number, holds, tally);
@@ -115,11 +128,11 @@ fn write_everywhere(card: Signature, size: usize, seen: &mut [u32]) {
 }
 
 // A watch in every space up to 3 bytes more than the used part and its record have.
-fn park_everywhere(w: Matcher, size: usize, used: usize, seen: &mut [u32]) {
+fn park_everywhere(w: Matcher, narrow: bool, size: usize, used: usize, seen: &mut [u32]) {
     let end = plus(plus(size, used), 4);
     let mut n: usize = 0;
     while n < end {
-        park(w, size, n, used, seen);
+        park(w, narrow, size, n, used, seen);
         n = n + 1;
     }
 }
@@ -139,12 +152,20 @@ fn card(row: [u32; 2], tally: &mut [u32]) {
     close(&seen, tally);
 }
 
-// A row: the card's length, used bytes; the size of the watch's record after six bytes.
-fn parked(row: [u32; 3], tally: &mut [u32]) {
+// The first words of a line.
+pub(crate) fn say_watch(w: Matcher, narrow: bool) {
+    say_form(narrow);
+    say(b", watch of #", &[w.signature.length]);
+    item(b" at ", w.now.at);
+}
+
+// A watch in every space behind a used part.
+fn parked(w: Matcher, narrow: bool, used: usize, size: usize, tally: &mut [u32]) {
     let mut seen = [0u32; PLACES];
-    let w = watch(row[0], 6);
-    park_everywhere(w, row[2] as usize, row[1] as usize, &mut seen);
-    say(b"watch of # at 6 in every space, used #:", &row);
+    park_everywhere(w, narrow, size, used, &mut seen);
+    say_watch(w, narrow);
+    item(b" in every space, used ", used as u64);
+    words(b":");
     close(&seen, tally);
 }
 
@@ -155,38 +176,109 @@ pub(crate) fn cards(tally: &mut [u32]) {
     card([1048576, 98], tally);
 }
 
-// The same of watches, and behind a used part.
-pub(crate) fn watches(tally: &mut [u32]) {
-    parked([1, 0, 26], tally);
-    parked([1, 31, 26], tally);
-    parked([5, 0, 110], tally);
-    parked([1048576, 0, 586], tally);
+// The watch of a row in every space. A row: the card's length, t at which nothing was listed, how many ones since then, used bytes; the size of
+// its record.
+fn row(row: [u64; 5], narrow: bool, tally: &mut [u32]) {
+    let w = late(low(row[0]), row[1], low(row[2]));
+    parked(w, narrow, row[3] as usize, row[4] as usize, tally);
 }
 
-// A watch of one byte after six is parked in n bytes of which so many are used. A row: n, used; number.
-fn edge(row: [u32; 3], tally: &mut [u32]) {
-    say(b"watch of 1 in # bytes, used #:", &row);
+// The rows.
+fn rows(list: &[[u64; 5]], narrow: bool, tally: &mut [u32]) {
+    let mut i: usize = 0;
+    while i < list.len() {
+        row(list[i], narrow, tally);
+        i = i + 1;
+    }
+}
+
+// Wide records, and behind a used part; where a narrow record just says t, where it does not, and around the last t.
+pub(crate) fn wide_watches(tally: &mut [u32]) {
+    rows(
+        &[
+            [1, 0, 6, 0, 30],
+            [1, 0, 6, 31, 30],
+            [5, 0, 6, 0, 138],
+            [1048576, 0, 6, 0, 750],
+            [5, 4294967295, 0, 0, 138],
+            [5, 4294967294, 2, 0, 138],
+            [5, 1099511627775, 0, 11, 138],
+            [5, 1099511627776, 0, 0, 138],
+        ],
+        false,
+        tally,
+    );
+}
+
+// The same in narrow ones.
+pub(crate) fn narrow_watches(tally: &mut [u32]) {
+    rows(
+        &[
+            [1, 0, 6, 0, 26],
+            [1, 0, 6, 31, 26],
+            [5, 0, 6, 0, 110],
+            [1048576, 0, 6, 0, 586],
+            [5, 4294967295, 0, 0, 110],
+            [5, 4294967294, 2, 0, 110],
+            [5, 1099511627775, 0, 11, 110],
+            [5, 1099511627776, 0, 0, 110],
+        ],
+        true,
+        tally,
+    );
+}
+
+// A watch of one byte after six, whose record has this size, is parked in n bytes of which so many are used. A row: n, used; number.
+fn edge(narrow: bool, size: usize, row: [u64; 3], tally: &mut [u32]) {
+    say_form(narrow);
+    item(b", watch of 1 in ", row[0]);
+    item(b" bytes, used ", row[1]);
+    words(b":");
     let used = row[1] as usize;
+    let number = low(row[2]);
     let mut buffer = [FILLER; ROOM];
-    let written = park_in(watch(1, 6), &mut buffer, row[0] as usize, used);
+    let written = park_in(watch(1, 6), narrow, &mut buffer, row[0] as usize, used);
     let verdict = written.verdict;
-    let holds = left(written.used, used, 26, row[2], &buffer);
-    meet(verdict, row[2], holds, tally);
+    let holds = left(written.used, used, size, number, &buffer);
+    meet(verdict, number, holds, tally);
     words(b"\n");
 }
 
 // The rows.
-fn edges_of(rows: &[[u32; 3]], tally: &mut [u32]) {
+fn edges_of(narrow: bool, size: usize, rows: &[[u64; 3]], tally: &mut [u32]) {
     let mut i: usize = 0;
     while i < rows.len() {
-        edge(rows[i], tally);
+        edge(narrow, size, rows[i], tally);
         i = i + 1;
     }
 }
 
 // One byte short, and just enough; behind another watch; and used parts up to the buffer's end and past it.
-pub(crate) fn edges(tally: &mut [u32]) {
+pub(crate) fn wide_edges(tally: &mut [u32]) {
     edges_of(
+        false,
+        30,
+        &[
+            [0, 0, 7],
+            [29, 0, 7],
+            [30, 0, 0],
+            [31, 0, 0],
+            [59, 30, 7],
+            [60, 30, 0],
+            [30, 30, 7],
+            [30, 31, 7],
+            [30, 4294967295, 7],
+            [30, 18446744073709551615, 7],
+        ],
+        tally,
+    );
+}
+
+// The same for a narrow record.
+pub(crate) fn narrow_edges(tally: &mut [u32]) {
+    edges_of(
+        true,
+        26,
         &[
             [0, 0, 7],
             [25, 0, 7],
@@ -197,6 +289,7 @@ pub(crate) fn edges(tally: &mut [u32]) {
             [26, 26, 7],
             [26, 27, 7],
             [26, 4294967295, 7],
+            [26, 18446744073709551615, 7],
         ],
         tally,
     );

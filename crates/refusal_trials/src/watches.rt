@@ -1,6 +1,10 @@
 // Watches with one or two numbers replaced, as values and as records: what misfits is refused with 10 by every call that takes it.
+use crate::bytes::low;
+use crate::bytes::put_long;
 use crate::bytes::put_number;
+use crate::calls::LAST_NARROW_T;
 use crate::calls::all_calls;
+use crate::calls::save_in;
 use crate::cards::FILLER;
 use crate::cards::ROOM;
 use crate::cards::card_of;
@@ -13,7 +17,7 @@ use crate::changes::HELD;
 use crate::changes::KEY;
 use crate::changes::LAST;
 use crate::changes::LENGTH;
-use crate::changes::NONE;
+use crate::changes::NOWHERE;
 use crate::changes::PRINTS;
 use crate::changes::STAGE_0;
 use crate::changes::STAGE_1;
@@ -30,20 +34,21 @@ use crate::compare::same_matcher;
 use crate::meeting::meet;
 use crate::names::say_card_change;
 use crate::names::say_watch_change;
+use crate::print::item;
 use crate::print::say;
 use crate::print::words;
+use fingerprint::Fingerprint;
 use matcher::Matcher;
 use record::checkpoint::Restored;
 use record::checkpoint::restore;
-use record::checkpoint::save;
 use signature::Signature;
+use stage::Mark;
 
-// The watch of a card after so many ones.
-pub(crate) fn watch(m: u32, taken: u32) -> Matcher {
-    let started = Matcher::start(card_of(m));
-    let mut w = started.matcher;
+// A watch so many ones later.
+pub(crate) fn struck(before: Matcher, n: u32) -> Matcher {
+    let mut w = before;
     let mut i: u32 = 0;
-    while i < taken {
+    while i < n {
         let struck = w.stroke(1);
         w = struck.matcher;
         i = i + 1;
@@ -51,19 +56,68 @@ pub(crate) fn watch(m: u32, taken: u32) -> Matcher {
     w
 }
 
-// Replaces a number of a watch in its record: it stands behind the head, the length, the key and the last print.
-pub(crate) fn put_place(buffer: &mut [u8], place: u32, value: u32) {
-    if place < NONE {
-        put_number(buffer, (18 + 4 * place) as usize, value);
+// The watch of a card after so many ones.
+pub(crate) fn watch(m: u32, taken: u32) -> Matcher {
+    let started = Matcher::start(card_of(m));
+    struck(started.matcher, taken)
+}
+
+// The watch that listed nothing at t, with some print there unless it was fresh, so many ones later.
+pub(crate) fn late(m: u32, t: u64, taken: u32) -> Matcher {
+    let fresh = watch(m, 0);
+    if t == 0 {
+        return struck(fresh, taken);
     }
+    let now = Mark {
+        at: t,
+        print: Fingerprint::of_number(12345),
+    };
+    struck(Matcher { now, ..fresh }, taken)
+}
+
+// Where the numbers of a stage stand in a wide record.
+const OFFSETS: [usize; 7] = [0, 4, 12, 16, 24, 28, 32];
+
+// Whether a number of a watch is a place of the stream.
+fn is_place(place: u64) -> bool {
+    if place < STAGE_0 {
+        return place == T;
+    }
+    let number = (place - STAGE_0) % 7;
+    number == FIRST || number == LAST
+}
+
+// Where a number of a watch stands in a wide record, behind the head, the length, the key and the last print.
+fn wide_at(place: u64) -> usize {
+    if place < STAGE_0 {
+        return if place == T { 18 } else { 26 };
+    }
+    let number = place - STAGE_0;
+    30 + 36 * (number / 7 % 20) as usize + OFFSETS[(number % 7) as usize] % 36
+}
+
+// Replaces a number of a watch in its record.
+pub(crate) fn put_place(buffer: &mut [u8], narrow: bool, place: u64, value: u64) {
+    if place == NOWHERE {
+        return;
+    }
+    if narrow {
+        put_number(buffer, (18 + 4 * (place % 256)) as usize, low(value));
+        return;
+    }
+    if is_place(place) {
+        put_long(buffer, wide_at(place), value);
+        return;
+    }
+    put_number(buffer, wide_at(place), low(value));
 }
 
 // The watch's record with two numbers replaced, resumed under its card.
-fn resumed(w: Matcher, row: [u32; 5]) -> Restored {
+fn resumed(w: Matcher, narrow: bool, row: [u64; 5]) -> Restored {
     let mut buffer = [FILLER; ROOM];
-    save(w, &mut buffer);
-    put_place(&mut buffer, row[0], row[1]);
-    put_place(&mut buffer, row[2], row[3]);
+    save_in(w, narrow, &mut buffer);
+    put_place(&mut buffer, narrow, row[0], row[1]);
+    put_place(&mut buffer, narrow, row[2], row[3]);
     restore(w.signature, &buffer)
 }
 
@@ -76,29 +130,38 @@ fn is_due(restored: Restored, number: u32, changed: Matcher) -> bool {
 }
 
 // Its verdict.
-fn resume(w: Matcher, row: [u32; 5], changed: Matcher, tally: &mut [u32]) {
-    let restored = resumed(w, row);
+fn resume(w: Matcher, narrow: bool, row: [u64; 5], changed: Matcher, tally: &mut [u32]) {
+    let number = low(row[4]);
+    let restored = resumed(w, narrow, row);
     let verdict = restored.verdict;
-    let holds = is_due(restored, row[4], changed);
-    meet(verdict, row[4], holds, tally);
+    let holds = is_due(restored, number, changed);
+    meet(verdict, number, holds, tally);
 }
 
-// A watch with two numbers replaced: the verdicts of strokes, of parkings and of resuming it. A row: place, value there; another place,
-// value there; number.
-fn case(m: u32, taken: u32, row: [u32; 5], tally: &mut [u32]) {
+// The same from a narrow record, if that can say the values.
+fn resume_narrow(w: Matcher, row: [u64; 5], changed: Matcher, tally: &mut [u32]) {
+    if row[1] <= LAST_NARROW_T && row[3] <= LAST_NARROW_T {
+        resume(w, true, row, changed, tally);
+    }
+}
+
+// A watch with two numbers replaced: the verdicts of strokes, of parkings and of resuming it, from a narrow record too if that can say it. A
+// row: place, value there; another place, value there; number.
+fn case(m: u32, taken: u32, row: [u64; 5], tally: &mut [u32]) {
     say(b"watch of # at #", &[m, taken]);
     say_watch_change(row[0], row[1]);
     say_watch_change(row[2], row[3]);
     words(b":");
     let w = watch(m, taken);
     let changed = changed_watch(changed_watch(w, row[0], row[1]), row[2], row[3]);
-    all_calls(changed, row[4], tally);
-    resume(w, row, changed, tally);
+    all_calls(changed, low(row[4]), tally);
+    resume(w, false, row, changed, tally);
+    resume_narrow(w, row, changed, tally);
     words(b"\n");
 }
 
 // The rows for the watch of m ones after so many.
-fn cases(m: u32, taken: u32, rows: &[[u32; 5]], tally: &mut [u32]) {
+fn cases(m: u32, taken: u32, rows: &[[u64; 5]], tally: &mut [u32]) {
     let mut i: usize = 0;
     while i < rows.len() {
         case(m, taken, rows[i], tally);
@@ -113,15 +176,19 @@ pub(crate) fn counts(tally: &mut [u32]) {
         16,
         6,
         &[
-            [NONE, 0, NONE, 0, 0],
-            [T, 0, NONE, 0, 10],
-            [T, 5, NONE, 0, 10],
-            [T, 7, NONE, 0, 10],
-            [T, 4294967295, NONE, 0, 10],
-            [F_T, 0, NONE, 0, 0],
-            [F_T, 2147483646, NONE, 0, 0],
-            [F_T, 2147483647, NONE, 0, 10],
-            [F_T, 4294967295, NONE, 0, 10],
+            [NOWHERE, 0, NOWHERE, 0, 0],
+            [T, 0, NOWHERE, 0, 10],
+            [T, 5, NOWHERE, 0, 10],
+            [T, 7, NOWHERE, 0, 10],
+            [T, 4294967295, NOWHERE, 0, 10],
+            [T, 4294967302, NOWHERE, 0, 10],
+            [T, 1099511627782, NOWHERE, 0, 10],
+            [T, 9223372036854775814, NOWHERE, 0, 10],
+            [T, 18446744073709551615, NOWHERE, 0, 10],
+            [F_T, 0, NOWHERE, 0, 0],
+            [F_T, 2147483646, NOWHERE, 0, 0],
+            [F_T, 2147483647, NOWHERE, 0, 10],
+            [F_T, 4294967295, NOWHERE, 0, 10],
         ],
         tally,
     );
@@ -133,13 +200,16 @@ pub(crate) fn none_listed(tally: &mut [u32]) {
         16,
         6,
         &[
-            [STAGE_3 + HELD, 1, NONE, 0, 10],
-            [STAGE_3 + FIRST, 1, NONE, 0, 10],
-            [STAGE_3 + F_FIRST, 1, NONE, 0, 10],
-            [STAGE_3 + LAST, 1, NONE, 0, 10],
-            [STAGE_3 + F_LAST, 1, NONE, 0, 10],
-            [STAGE_3 + STEP, 1, NONE, 0, 10],
-            [STAGE_3 + STEP_PRINT, 1, NONE, 0, 10],
+            [STAGE_3 + HELD, 1, NOWHERE, 0, 10],
+            [STAGE_3 + FIRST, 1, NOWHERE, 0, 10],
+            [STAGE_3 + F_FIRST, 1, NOWHERE, 0, 10],
+            [STAGE_3 + LAST, 1, NOWHERE, 0, 10],
+            [STAGE_3 + F_LAST, 1, NOWHERE, 0, 10],
+            [STAGE_3 + STEP, 1, NOWHERE, 0, 10],
+            [STAGE_3 + STEP_PRINT, 1, NOWHERE, 0, 10],
+            [STAGE_3 + FIRST, 4294967296, NOWHERE, 0, 10],
+            [STAGE_3 + LAST, 4294967296, NOWHERE, 0, 10],
+            [STAGE_3 + FIRST, 4294967296, STAGE_3 + LAST, 4294967296, 10],
         ],
         tally,
     );
@@ -151,14 +221,14 @@ pub(crate) fn one_listed(tally: &mut [u32]) {
         16,
         6,
         &[
-            [STAGE_0 + HELD, 0, NONE, 0, 10],
-            [STAGE_0 + HELD, 2, NONE, 0, 10],
-            [STAGE_0 + FIRST, 4, NONE, 0, 10],
-            [STAGE_0 + F_FIRST, 0, NONE, 0, 10],
-            [STAGE_0 + LAST, 4, NONE, 0, 10],
-            [STAGE_0 + F_LAST, 0, NONE, 0, 10],
-            [STAGE_0 + STEP, 1, NONE, 0, 10],
-            [STAGE_0 + STEP_PRINT, 1, NONE, 0, 10],
+            [STAGE_0 + HELD, 0, NOWHERE, 0, 10],
+            [STAGE_0 + HELD, 2, NOWHERE, 0, 10],
+            [STAGE_0 + FIRST, 4, NOWHERE, 0, 10],
+            [STAGE_0 + F_FIRST, 0, NOWHERE, 0, 10],
+            [STAGE_0 + LAST, 4, NOWHERE, 0, 10],
+            [STAGE_0 + F_LAST, 0, NOWHERE, 0, 10],
+            [STAGE_0 + STEP, 1, NOWHERE, 0, 10],
+            [STAGE_0 + STEP_PRINT, 1, NOWHERE, 0, 10],
             [
                 STAGE_0 + F_FIRST,
                 2147483646,
@@ -173,6 +243,16 @@ pub(crate) fn one_listed(tally: &mut [u32]) {
                 2147483647,
                 10,
             ],
+            [STAGE_0 + FIRST, 4294967301, NOWHERE, 0, 10],
+            [STAGE_0 + LAST, 4294967301, NOWHERE, 0, 10],
+            [STAGE_0 + FIRST, 4294967301, STAGE_0 + LAST, 4294967301, 10],
+            [
+                STAGE_0 + FIRST,
+                18446744073709551615,
+                STAGE_0 + LAST,
+                18446744073709551615,
+                10,
+            ],
         ],
         tally,
     );
@@ -184,28 +264,29 @@ pub(crate) fn many_listed(tally: &mut [u32]) {
         16,
         6,
         &[
-            [STAGE_2 + HELD, 0, NONE, 0, 10],
-            [STAGE_2 + HELD, 1, NONE, 0, 10],
-            [STAGE_2 + HELD, 2, NONE, 0, 10],
-            [STAGE_2 + HELD, 4, NONE, 0, 10],
-            [STAGE_2 + FIRST, 1, NONE, 0, 10],
-            [STAGE_2 + LAST, 1, NONE, 0, 10],
-            [STAGE_2 + STEP, 0, NONE, 0, 10],
-            [STAGE_2 + STEP, 2, NONE, 0, 10],
+            [STAGE_2 + HELD, 0, NOWHERE, 0, 10],
+            [STAGE_2 + HELD, 1, NOWHERE, 0, 10],
+            [STAGE_2 + HELD, 2, NOWHERE, 0, 10],
+            [STAGE_2 + HELD, 4, NOWHERE, 0, 10],
+            [STAGE_2 + FIRST, 1, NOWHERE, 0, 10],
+            [STAGE_2 + LAST, 1, NOWHERE, 0, 10],
+            [STAGE_2 + STEP, 0, NOWHERE, 0, 10],
+            [STAGE_2 + STEP, 2, NOWHERE, 0, 10],
             [STAGE_2 + HELD, 2, STAGE_2 + STEP, 2, 0],
             [STAGE_2 + HELD, 2, STAGE_2 + LAST, 1, 0],
-            [STAGE_2 + F_FIRST, 2147483646, NONE, 0, 0],
-            [STAGE_2 + F_FIRST, 2147483647, NONE, 0, 10],
-            [STAGE_2 + F_LAST, 2147483646, NONE, 0, 0],
-            [STAGE_2 + F_LAST, 2147483647, NONE, 0, 10],
-            [STAGE_2 + STEP_PRINT, 2147483646, NONE, 0, 0],
-            [STAGE_2 + STEP_PRINT, 2147483647, NONE, 0, 10],
+            [STAGE_2 + F_FIRST, 2147483646, NOWHERE, 0, 0],
+            [STAGE_2 + F_FIRST, 2147483647, NOWHERE, 0, 10],
+            [STAGE_2 + F_LAST, 2147483646, NOWHERE, 0, 0],
+            [STAGE_2 + F_LAST, 2147483647, NOWHERE, 0, 10],
+            [STAGE_2 + STEP_PRINT, 2147483646, NOWHERE, 0, 0],
+            [STAGE_2 + STEP_PRINT, 2147483647, NOWHERE, 0, 10],
         ],
         tally,
     );
 }
 
-// A last start too young, and a first too old; a step of 0 between equal starts; products that are right only modulo 2^32; and the largest.
+// A last start too young, and a first too old; a step of 0 between equal starts; products that are right only modulo 2^32; and the largest. Then
+// starts that are right only modulo 2^32 or 2^64.
 pub(crate) fn many_listed_at(tally: &mut [u32]) {
     cases(
         16,
@@ -217,6 +298,16 @@ pub(crate) fn many_listed_at(tally: &mut [u32]) {
             [STAGE_2 + HELD, 2147483650, STAGE_2 + STEP, 2, 10],
             [STAGE_1 + HELD, 2863311532, STAGE_1 + STEP, 3, 10],
             [STAGE_1 + HELD, 4294967295, STAGE_1 + STEP, 4294967295, 10],
+            [STAGE_2 + FIRST, 4294967296, STAGE_2 + LAST, 4294967298, 10],
+            [STAGE_2 + LAST, 4294967298, NOWHERE, 0, 10],
+            [STAGE_2 + HELD, 4, STAGE_2 + FIRST, 18446744073709551615, 10],
+            [
+                STAGE_2 + FIRST,
+                18446744073709551615,
+                STAGE_2 + LAST,
+                18446744073709551615,
+                10,
+            ],
         ],
         tally,
     );
@@ -228,27 +319,52 @@ pub(crate) fn fresh(tally: &mut [u32]) {
         16,
         0,
         &[
-            [NONE, 0, NONE, 0, 0],
-            [F_T, 1, NONE, 0, 10],
-            [T, 1, NONE, 0, 0],
+            [NOWHERE, 0, NOWHERE, 0, 0],
+            [F_T, 1, NOWHERE, 0, 10],
+            [T, 1, NOWHERE, 0, 0],
             [T, 1, F_T, 1, 0],
-            [STAGE_0 + HELD, 1, NONE, 0, 10],
+            [STAGE_0 + HELD, 1, NOWHERE, 0, 10],
+        ],
+        tally,
+    );
+}
+
+// The same at the limits of t; a misfit is told before a t that a narrow record cannot say.
+pub(crate) fn at_limits(tally: &mut [u32]) {
+    cases(
+        16,
+        0,
+        &[
+            [T, 4294967294, NOWHERE, 0, 0],
+            [T, 4294967295, NOWHERE, 0, 0],
+            [T, 4294967296, NOWHERE, 0, 0],
+            [T, 4294967297, NOWHERE, 0, 0],
+            [T, 1099511627773, NOWHERE, 0, 0],
+            [T, 1099511627774, NOWHERE, 0, 0],
+            [T, 1099511627775, NOWHERE, 0, 0],
+            [T, 1099511627776, NOWHERE, 0, 10],
+            [T, 9223372036854775808, NOWHERE, 0, 10],
+            [T, 18446744073709551615, NOWHERE, 0, 10],
+            [T, 4294967296, F_T, 2147483647, 10],
+            [T, 1099511627775, F_T, 2147483647, 10],
+            [T, 1099511627776, F_T, 2147483647, 10],
         ],
         tally,
     );
 }
 
 // A 1 past the last stage, where no record has a number. A row: the card's length; place.
-fn past_case(row: [u32; 2], tally: &mut [u32]) {
-    say(b"watch of # at 6", &row);
+fn past_case(row: [u64; 2], tally: &mut [u32]) {
+    item(b"watch of ", row[0]);
+    words(b" at 6");
     say_watch_change(row[1], 1);
     words(b":");
-    all_calls(changed_watch(watch(row[0], 6), row[1], 1), 10, tally);
+    all_calls(changed_watch(watch(low(row[0]), 6), row[1], 1), 10, tally);
     words(b"\n");
 }
 
 // The rows.
-fn past_cases(rows: &[[u32; 2]], tally: &mut [u32]) {
+fn past_cases(rows: &[[u64; 2]], tally: &mut [u32]) {
     let mut i: usize = 0;
     while i < rows.len() {
         past_case(rows[i], tally);

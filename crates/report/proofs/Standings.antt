@@ -19,13 +19,13 @@ use Rattle.report_core.specs.Output.{cardBytes, output}
 use Rattle.report_core.specs.Progress.{heardWhile}
 use Rattle.report_core.specs.Calls.{Begins}
 use Rattle.report_core.specs.Sent.{Sent, Partly}
-use Rattle.report_core.proofs.Hearing.{heard-later}
+use Rattle.report_core.proofs.Hearing.{fits-within, heard-later}
 use Rattle.report_core.proofs.Sending.{heard-all, sent-refused, sent-first, sent-more, sent-over, sent-partly}
 use Rattle.report.specs.declared.Status.{Status}
 use Rattle.report.specs.declared.Status.the-variants.{More, Ended, Unreadable, Unwritable}
 use Rattle.report.specs.declared.State.{State}
 use Rattle.report.specs.declared.Outcome.{Outcome}
-use Rattle.report.specs.State.{bufferSize, Took, Passed, behindFront, Ready, Goes, on, over, Turned, Standing, Stands, Closed, Over}
+use Rattle.report.specs.State.{bufferSize, Sound, Took, Passed, behindFront, Ready, Goes, on, over, Turned, Standing, Stands, Closed, Over}
 use Rattle.report.specs.State as state
 
 -- a run's count and state, put in other words
@@ -38,6 +38,10 @@ sent-as :
     → s .written ≡ written
     → Sent input (number (s .verdict)) (s .progress) (s .read) (s .written)
 sent-as s q v e r w = rw (v, e, r, w) q
+
+-- no more is written than the last t can bring
+most-written : {p : Progress} {written : ℕ} → Sound p written → written ≤ bufferSize * maxTaken
+most-written {p} q = omega (arith, q .few, fits-within p (q .fits))
 
 module _ (chunk : List ℕ) (b : Begun) (q : Begins chunk b) where
   -- the card is refused
@@ -61,10 +65,10 @@ module _ (chunk : List ℕ) (b : Begun) (q : Begins chunk b) where
 
     pub opened : Passed first (drop (b .taken) chunk) r → Standing chunk r
     opened (state.unwritten u) = state.unwritten u
-    opened (state.refused t l n u) = state.ended u (t .sound .few) (first-sent t l)
+    opened (state.refused t l n u) = state.ended u (most-written (t .sound)) (first-sent t l)
     opened (state.taken t l z u) =
         by-test (ltb (length chunk) cardBytes)
-        (λ f. state.ended (u ∙ e ∙ rw f) (t .sound .few) (first-sent t l))
+        (λ f. state.ended (u ∙ e ∙ rw f) (most-written (t .sound)) (first-sent t l))
         (λ f. state.more (u ∙ e ∙ rw f) (record { sound = t .sound; accepted = z; near = omega (arith) })
         (omega (arith, ltb-false (length chunk) cardBytes f)) (first-sent t l))
 
@@ -104,7 +108,7 @@ module _ (s r : State) (input : List ℕ) (ready : Ready s) where
       go : Goes n r → Standing (before ++ take n input) r
       go (on m z u) =
           state.more u (record { sound = t .sound; accepted = z; near = omega (arith, ready .near, risen n l t z) }) (omega arith) sent
-      go (over m u) = state.ended u (t .sound .few) sent
+      go (over m u) = state.ended u (most-written (t .sound)) sent
 
   pub nearer :
       s .progress .matcher .now .at ≤ maxTaken
@@ -165,7 +169,7 @@ reading s m (state.unread u q) = let z : _≡_ {A = ℕ} 0 1 = cc in absurd (ome
 reading s m (state.unwritten u) = let z : _≡_ {A = ℕ} 0 1 = cc in absurd (omega arith)
 
 pub record Ending (input : List ℕ) (s : State) : Type 0 where
-  pub few : s .written ≤ bufferSize * s .progress .matcher .now .at
+  pub few : s .written ≤ bufferSize * maxTaken
   pub sent : Sent input (number (s .verdict)) (s .progress) (s .read) (s .written)
 
 pub ending : {input : List ℕ} (s : State) → s .status ≡ Ended → Standing input s → Ending input s

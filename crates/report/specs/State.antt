@@ -8,6 +8,7 @@ use mathlib.Core.List.{List}
 use lib.ListN.{length, take}
 use lib.Dec.{ltb}
 use Rattle.refusal.specs.Number.{number}
+use Rattle.stage.specs.Stage.{maxTaken}
 use Rattle.report_core.specs.declared.Progress.{Progress}
 use Rattle.report_core.specs.Output.{cardBytes}
 use Rattle.report_core.specs.Progress.{progressFits, heard}
@@ -89,7 +90,7 @@ pub data Standing (input : List ℕ) (s : State) : Type 0 where
       → Standing input s
   ended :
       s .status ≡ Ended
-      → s .written ≤ bufferSize * s .progress .matcher .now .at
+      → s .written ≤ bufferSize * maxTaken
       → Sent input (number (s .verdict)) (s .progress) (s .read) (s .written)
       → Standing input s
   unread : s .status ≡ Unreadable → Partly (s .read) (s .written) → Standing input s

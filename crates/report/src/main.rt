@@ -7,6 +7,7 @@ ghost use lib.ListN.{length};
 ghost use Rattle.descriptor.specs.Reads.{Reads};
 ghost use Rattle.report_core.specs.Output.{cardBytes};
 ghost use Rattle.report.specs.declared.Status.the-variants.{More};
+ghost use Rattle.stage.specs.Stage.{maxTaken};
 ghost use Rattle.report.specs.State.{bufferSize, behindFront, Sound, Passed, Ready, Turned, Standing, Stands, Closed, Over};
 use descriptor::Got;
 use libc::STDIN_FILENO;
@@ -175,7 +176,7 @@ fn read_on(first: State, input: &mut [u8], out: &mut [u8]) -> State
 
 // Writes the last lines.
 fn close(s: State, out: &mut [u8]) -> Outcome
-    requires { ⌜ (s .written ≤ bufferSize * s .progress .matcher .now .at) × (bufferSize ≡ length (now out)) ⌝ }
+    requires { ⌜ (s .written ≤ bufferSize * maxTaken) × (bufferSize ≡ length (now out)) ⌝ }
     ensures { λ r. ⌜ Closed s r ⌝ }
 {
     let verdict = s.verdict;

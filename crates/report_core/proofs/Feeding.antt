@@ -8,19 +8,22 @@ use native.Mathlib.Omega.{arith}
 use lib.Dec.{eqb}
 use lib.ListN.{length, take, drop, length-append, length-drop, take-append-drop, drop-of-length-le}
 use lib.Seq.{drop-cons, drop-drop}
-use borrow.Author.Tests.{ne-eqb, le-leb, lt-leb}
+use borrow.Author.Tests.{ne-eqb, leb-true, le-leb, lt-leb}
+use Rattle.lists.proofs.Laws.{and-right}
 use Rattle.refusal.specs.declared.Refusal.{Refusal}
 use Rattle.refusal.specs.declared.Verdict.the-variants.{Accepted, Refused}
 use Rattle.refusal.specs.Number.{number, refusalNumber}
+use Rattle.stage.specs.Stage.{maxTaken}
 use Rattle.matcher.specs.declared.Matcher.{Matcher}
 use Rattle.matcher.specs.declared.Scan.{Scan}
+use Rattle.matcher.specs.Matcher.{matcherFits}
 use Rattle.matcher.specs.Scan.{scanned, scanOf}
 use Rattle.report_lines.specs.Lines.{reportLines, room, hasRoom}
 use Rattle.report_core.specs.declared.Progress.{Progress}
 use Rattle.report_core.specs.declared.Fed.{Fed}
 use Rattle.report_core.specs.Progress.{mostComparisons, progressFits, Heard, stopped, behind, heardWhile, roomIn, fed}
 use Rattle.report_core.specs.Calls.{Feeds}
-use Rattle.report_core.proofs.Hearing.{heard-by, behind-behind, scan-same, heard-scan}
+use Rattle.report_core.proofs.Hearing.{heard-by, behind-behind, scan-same, fits-within, heard-scan}
 use Rattle.report_core.proofs.Transcript.{Ran, ran}
 use Rattle.report_core.proofs.Putting.{PutAt}
 
@@ -46,10 +49,11 @@ pub record Along (p₀ : Progress) (bytes entry : List ℕ) (p : Progress) (take
   pub front : take used out ≡ said
   pub rest : drop used out ≡ drop used entry
   pub size : length out ≡ length entry
+  pub limit : p .matcher .now .at ≤ maxTaken
   pub fits : p .total ≤ mostComparisons * p .matcher .now .at
 
 pub along-begin :
-    (p : Progress) (bytes entry : List ℕ) → p .total ≤ mostComparisons * p .matcher .now .at → Along p bytes entry p 0 0 entry
+    (p : Progress) (bytes entry : List ℕ) → progressFits p ≡ true → Along p bytes entry p 0 0 entry
 along-begin p bytes entry f =
     record {
       said = [];
@@ -59,7 +63,8 @@ along-begin p bytes entry f =
       front = refl;
       rest = refl;
       size = refl;
-      fits = f;
+      limit = fits-within p f;
+      fits = leb-true _ _ (and-right (matcherFits (p .matcher)) _ f);
     }
 
 -- what the turns have come to, where they end
@@ -123,6 +128,9 @@ module _ (p₀ : Progress) (bytes entry : List ℕ) (p : Progress) (taken used :
     on-fits =
         rw (q .0, q .1 .1 .0, scan-here (p .matcher) bytes taken more) (omega (arith, a .fits, went .later, went .few))
 
+    pub on-limit : s .matcher .now .at ≤ maxTaken
+    on-limit = rw (q .0, scan-here (p .matcher) bytes taken more) (went .within (a .limit))
+
     -- a byte was taken, or one refused
     pub on-moves : number (s .verdict) ≡ 0 → taken < s .next
     on-moves e =
@@ -153,6 +161,7 @@ module _ (p₀ : Progress) (bytes entry : List ℕ) (p : Progress) (taken used :
           front = front;
           rest = rest;
           size = same ∙ a .size;
+          limit = on-limit;
           fits = on-fits;
         }
 

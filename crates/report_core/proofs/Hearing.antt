@@ -10,11 +10,13 @@ use lib.Dec.{eqb}
 use lib.ListN.{length, drop}
 use borrow.Author.Tests.{eqb-true, eqb-false, leb-true, le-leb}
 use Rattle.lists.proofs.Cases.{by-test}
-use Rattle.lists.proofs.Laws.{and-right, and-both}
+use Rattle.lists.proofs.Laws.{and-left, and-right, and-both}
+use Rattle.stage.specs.Stage.{maxTaken}
 use Rattle.matcher.specs.declared.Matcher.{Matcher}
 use Rattle.matcher.specs.Matcher.{matcherFits}
 use Rattle.matcher.specs.Stroke.{strokeRefusal, strokeAnswer}
 use Rattle.matcher.specs.Scan.{silent, Scanned, scanned, scanOf}
+use Rattle.matcher.proofs.Sound.{sound}
 use Rattle.matcher.proofs.StrokeFits.{stroke-fits}
 use Rattle.report_lines.specs.Lines.{reportLines}
 use Rattle.report_core.specs.declared.Progress.{Progress}
@@ -50,6 +52,10 @@ scanLines s = reportLines (s .matcher .now .at) (s .answer)
 pub scan-same : (w : Matcher) (byte : ℕ) (bytes : List ℕ) → scanOf w (byte ∷ bytes) ≡ scanned w (byte ∷ bytes)
 unfolding scanOf scanned
 scan-same w byte bytes = by-test (matcherFits w) (λ e. rw e) (λ e. rw (e, scanned))
+
+-- t of a progress that is no misfit has a limit
+pub fits-within : (p : Progress) → progressFits p ≡ true → p .matcher .now .at ≤ maxTaken
+fits-within p f = sound (p .matcher) (and-left (matcherFits (p .matcher)) _ f) .within
 
 -- one byte keeps a progress from misfitting
 onward-fits : (p : Progress) (byte : ℕ) → progressFits p ≡ true → strokeRefusal (p .matcher) ≡ 0 → progressFits (onward p byte) ≡ true

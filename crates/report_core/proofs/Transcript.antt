@@ -10,6 +10,7 @@ use lib.ListN.{length}
 use borrow.Author.Tests.{eqb-true, eqb-false}
 use Rattle.ladder.proofs.Levels.{levels-bound}
 use Rattle.lists.proofs.Laws.{and-left, and-right}
+use Rattle.stage.specs.Stage.{maxTaken}
 use Rattle.matcher.specs.declared.Ring.{Ring}
 use Rattle.matcher.specs.declared.Ring.the-variants.{Silent, At}
 use Rattle.matcher.specs.declared.Matcher.{Matcher}
@@ -19,7 +20,7 @@ use Rattle.matcher.specs.Stroke.{noAnswer, strokeRefusal, strokeAnswer, afterSt
 use Rattle.matcher.specs.Scan.{silentRing, silent, Scanned, scanned}
 use Rattle.lists.proofs.Cases.{by-test}
 use Rattle.matcher.proofs.Ceiling.{ceiling}
-use Rattle.matcher.proofs.Sound.{sound, card-of}
+use Rattle.matcher.proofs.Sound.{sound, card-of, taken-below}
 use Rattle.report_lines.specs.Lines.{ringLines, reportLines}
 use Rattle.report_core.specs.Progress.{mostComparisons}
 
@@ -51,12 +52,13 @@ quiet t = silent-lines t noAnswer refl
 -- How t, the comparisons and the bytes taken hang together in a run of strokes.
 pub record Ran (w : Matcher) (bytes : List ℕ) (r : Scanned) : Type 0 where
   pub later : r .matcher .now .at ≡ w .now .at + r .taken
+  pub within : w .now .at ≤ maxTaken → r .matcher .now .at ≤ maxTaken
   pub few : r .comparisons ≤ mostComparisons * r .taken
   pub moves : 0 < length bytes → r .refusal ≡ 0 → 0 < r .taken
 
 pub ran : (w : Matcher) (bytes : List ℕ) → Ran w bytes (scanned w bytes)
 unfolding scanned
-ran w [] = record { later = omega arith; few = omega arith; moves = λ l z. l }
+ran w [] = record { later = omega arith; within = λ l. l; few = omega arith; moves = λ l z. l }
 ran w (byte ∷ bytes) =
     by-test (eqb (strokeRefusal w) 0)
     (λ e. let z = eqb-true (strokeRefusal w) 0 e in
@@ -65,14 +67,16 @@ ran w (byte ∷ bytes) =
     rw (e, scanned, f)
     (record {
       later = omega (arith, q .later, taken-later w byte z);
+      within = λ l. q .within (omega (arith, taken-later w byte z, taken-below w z));
       few = omega (arith, q .few, taken-few w byte z);
       moves = λ l n. omega arith;
     }))
     (λ f. rw (e, scanned, f)
     (record {
       later = taken-later w byte z ∙ omega arith;
+      within = λ l. omega (arith, taken-later w byte z, taken-below w z);
       few = omega (arith, taken-few w byte z);
       moves = λ l n. omega arith;
     })))
     (λ e. rw (e, scanned)
-    (record { later = omega arith; few = omega arith; moves = λ l n. absurd (eqb-false (strokeRefusal w) 0 e n) }))
+    (record { later = omega arith; within = λ l. l; few = omega arith; moves = λ l n. absurd (eqb-false (strokeRefusal w) 0 e n) }))

@@ -80,7 +80,7 @@ impl Progress {
         ensures { λ ok. ⌜ ok ≡ progressFits self ⌝ }
     {
         let matcher = self.matcher;
-        let t = matcher.now.at as u64;
+        let t = matcher.now.at;
         if !matcher.fits() {
             return false;
         }
@@ -151,7 +151,7 @@ pub fn feed(progress: Progress, bytes: &[u8], out: &mut [u8]) -> Fed
 }
 
 // Puts the last lines at the front of the buffer: what was refused, if something was, and t with the total.
-pub fn finish(verdict: Verdict, t: u32, total: u64, out: &mut [u8]) -> Put
+pub fn finish(verdict: Verdict, t: u64, total: u64, out: &mut [u8]) -> Put
     ensures { λ r. ⌜ r ≡ lastPlaced (now (out .entry)) (lastLines (number verdict) t total) ⌝ }
     ensures { λ _. ⌜ now (out .exit) ≡ lastWritten (now (out .entry)) (lastLines (number verdict) t total) ⌝ }
 {

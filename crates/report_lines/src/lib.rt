@@ -57,23 +57,21 @@ fn put_line(buf: &mut [u8], at: usize, letter: u8, numbers: &[u64]) -> usize
 }
 
 // The line of a set aside.
-fn put_aside(buf: &mut [u8], at: usize, t: u32, set: Progression) -> usize
+fn put_aside(buf: &mut [u8], at: usize, t: u64, set: Progression) -> usize
     requires { ⌜ at + mostLine ≤ length (now buf) ⌝ }
     ensures { λ r. ⌜ Stored (now (buf .entry)) at (lineA t set) mostLine r (now (buf .exit)) ⌝ }
 {
-    let numbers = [t as u64, set.first as u64, set.step as u64, set.many as u64];
+    let numbers = [t, set.first, set.step as u64, set.many as u64];
     put_line(buf, at, b'A', &numbers)
 }
 
 // The line of a ring, if a start rang.
-fn put_ring(buf: &mut [u8], at: usize, t: u32, ring: Ring) -> usize
+fn put_ring(buf: &mut [u8], at: usize, t: u64, ring: Ring) -> usize
     requires { ⌜ at + mostLine ≤ length (now buf) ⌝ }
     ensures { λ r. ⌜ Stored (now (buf .entry)) at (ringLines t ring) mostLine r (now (buf .exit)) ⌝ }
 {
     if let Ring::At(start) = ring {
-        let taken = t as u64;
-        let began = start as u64;
-        let numbers = [taken, began];
+        let numbers = [t, start];
         return put_line(buf, at, b'R', &numbers);
     }
     at
@@ -101,7 +99,7 @@ fn counted(asides: u32) -> usize
 }
 
 // The lines of the answer to byte t, at a place of the buffer.
-pub fn put_report(buf: &mut [u8], at: usize, t: u32, answer: Answer) -> Put
+pub fn put_report(buf: &mut [u8], at: usize, t: u64, answer: Answer) -> Put
     ensures { λ r. ⌜ r ≡ placed (now (buf .entry)) at (reportLines t answer) ⌝ }
     ensures { λ _. ⌜ now (buf .exit) ≡ written (now (buf .entry)) at (reportLines t answer) ⌝ }
 {
@@ -142,10 +140,10 @@ pub fn put_refusal(buf: &mut [u8], at: usize, number: u32) -> Put
 }
 
 // The last line, at a place of the buffer.
-pub fn put_end(buf: &mut [u8], at: usize, t: u32, total: u64) -> Put
+pub fn put_end(buf: &mut [u8], at: usize, t: u64, total: u64) -> Put
     ensures { λ r. ⌜ r ≡ placed (now (buf .entry)) at (lineE t total) ⌝ }
     ensures { λ _. ⌜ now (buf .exit) ≡ written (now (buf .entry)) at (lineE t total) ⌝ }
 {
-    let numbers = [t as u64, total];
+    let numbers = [t, total];
     put_alone(buf, at, b'E', &numbers)
 }

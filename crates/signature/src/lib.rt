@@ -298,7 +298,7 @@ impl Builder {
         if !print.fits() {
             return false;
         }
-        if !running_fits(taken, print) {
+        if !running_fits(taken as u64, print) {
             return false;
         }
         let prints = self.prints;
@@ -371,7 +371,7 @@ impl Builder {
 }
 
 // A running print is 0 at 0 bytes.
-pub fn running_fits(taken: u32, print: Fingerprint) -> bool
+pub fn running_fits(taken: u64, print: Fingerprint) -> bool
     ensures { λ ok. ⌜ ok ≡ cond (eqb taken 0) (same print empty) true ⌝ }
 {
     if taken == 0 {

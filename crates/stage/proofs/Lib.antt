@@ -1,4 +1,5 @@
 pub mod Fit
+pub mod Now
 pub mod Keeps
 pub mod Levels
 pub mod Moves

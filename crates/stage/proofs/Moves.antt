@@ -4,14 +4,15 @@ use Prim.Native.Nat.{ℕ, suc, _+_, _-_, _≤_, _<_}
 use mathlib.Core.Path.{_≡_}
 use mathlib.Core.Bool.{true, false}
 use native.Mathlib.Omega.{arith}
-use lib.Dec.{leb, eqb}
-use borrow.Author.Tests.{eqb-false, eq-eqb, ne-eqb, lt-ltb, le-ltb, le-leb, lt-leb}
+use lib.Dec.{leb, ltb, eqb}
+use borrow.Author.Tests.{ltb-true, leb-true, eqb-false, eq-eqb, ne-eqb, lt-ltb, le-leb, lt-leb}
 use Rattle.fingerprint.specs.declared.Key.{Key}
 use Rattle.lists.proofs.Cases.{by-test}
+use Rattle.lists.proofs.Laws.{and-left, and-right}
 use Rattle.stage.specs.declared.Mark.{Mark}
 use Rattle.stage.specs.declared.Stage.{Stage}
 use Rattle.stage.specs.declared.Aside.the-variants.{Nothing, Set}
-use Rattle.stage.specs.Stage.{maxTaken, noStage, sameGap, gapTo, forward, alone, takenOff, entered, allButLast, takeOffOf, entryOf, quietUntil}
+use Rattle.stage.specs.Stage.{maxTaken, maxCount, noStage, sameGap, gapTo, forward, alone, takenOff, entered, allButLast, takeOffOf, canEnter, entryOf, quietUntil}
 
 module _ (key : Key) (s : Stage) where
   abbrev second : ℕ
@@ -52,19 +53,33 @@ module _ (key : Key) (s : Stage) (new : Mark) where
   unfolding entryOf entered
   enter-none e = rw e
 
-  pub enter-full : maxTaken ≤ s .held → entryOf key s new ≡ record { stage = noStage; aside = Nothing }
+  pub enter-full : canEnter s new ≡ false → entryOf key s new ≡ record { stage = noStage; aside = Nothing }
   unfolding entryOf
-  enter-full h = rw (le-ltb (s .held) maxTaken h)
+  enter-full e = rw e
 
   -- what is left of a stage whose last start and newcomer remain
   abbrev pair : Stage
   pair = record { held = 2; first = s .last; last = new; step = gapTo key (s .last) new }
 
-  pub enter-second : s .held ≡ 1 → entryOf key s new ≡ record { stage = pair; aside = Nothing }
-  unfolding entryOf entered
-  enter-second e = rw e
+  -- whether one start more can be counted and the gap to it said
+  pub entering : (s .held ≡ 0 → ⊥) → canEnter s new ≡ true → (s .held < maxCount) × (new .at - s .last .at ≤ maxCount)
+  entering n e =
+      let both = rw (ne-eqb (s .held) 0 n) at e in (
+        ltb-true (s .held) maxCount (and-left (ltb (s .held) maxCount) _ both),
+        leb-true (new .at - s .last .at) maxCount (and-right (ltb (s .held) maxCount) _ both),
+      )
 
-  module _ (two : 2 ≤ s .held) (room : s .held < maxTaken) where
+  pub can-enter : s .held < maxCount → new .at - s .last .at ≤ maxCount → canEnter s new ≡ true
+  can-enter h g =
+      by-test (eqb (s .held) 0) (λ e. rw e)
+      (λ e. rw (e, lt-ltb (s .held) maxCount h, le-leb (new .at - s .last .at) maxCount g))
+
+  pub enter-second :
+      s .held ≡ 1 → new .at - s .last .at ≤ maxCount → entryOf key s new ≡ record { stage = pair; aside = Nothing }
+  unfolding entryOf entered
+  enter-second e g = rw (can-enter (omega arith) g, e)
+
+  module _ (two : 2 ≤ s .held) (room : s .held < maxCount) (near : new .at - s .last .at ≤ maxCount) where
     pub enter-longer :
         sameGap (gapTo key (s .last) new) (s .step) ≡ true
         → entryOf key s new
@@ -75,7 +90,7 @@ module _ (key : Key) (s : Stage) (new : Mark) where
     unfolding entryOf entered
     enter-longer e =
         rw (
-          lt-ltb (s .held) maxTaken room,
+          can-enter room near,
           ne-eqb (s .held) 0 (omega arith),
           ne-eqb (s .held) 1 (omega arith),
           lt-ltb 1 (s .held) two,
@@ -88,7 +103,7 @@ module _ (key : Key) (s : Stage) (new : Mark) where
     unfolding entryOf entered
     enter-aside e =
         rw (
-          lt-ltb (s .held) maxTaken room,
+          can-enter room near,
           ne-eqb (s .held) 0 (omega arith),
           ne-eqb (s .held) 1 (omega arith),
           lt-ltb 1 (s .held) two,

@@ -5,15 +5,17 @@ use mathlib.Core.Path.{_≡_, sym, _∙_, ap}
 use mathlib.Core.Bool.{true}
 use native.Mathlib.Nat.{le-mul-of-pos-right}
 use native.Mathlib.Omega.{arith}
-use borrow.Author.Tests.{ne-eqb, lt-ltb, le-leb}
+use lib.Dec.{eqb}
+use borrow.Author.Tests.{eqb-false, ne-eqb, le-leb}
 use Rattle.fingerprint.specs.declared.Key.{Key}
 use Rattle.ladder.proofs.Levels.{length-within}
+use Rattle.lists.proofs.Cases.{by-test}
 use Rattle.signature.specs.Signature.{maxLength}
 use Rattle.stage.specs.declared.Mark.{Mark}
 use Rattle.stage.specs.declared.Stage.{Stage}
 use Rattle.stage.specs.Stage.{maxTaken, takenOff, entered, asideOf, takeOffOf, canEnter, entryOf}
 use Rattle.stage.proofs.Fit.{Fit, idle, single, several, Many}
-use Rattle.stage.proofs.Moves.{off-few}
+use Rattle.stage.proofs.Moves.{off-few, can-enter}
 
 module _ (m i lo hi : ℕ) (s : Stage) (in-order : lo ≤ hi) where
   few-many : Many m i lo hi s → s .held ≤ suc m
@@ -53,13 +55,24 @@ module _ (m i lo hi : ℕ) (s : Stage) (in-order : lo ≤ hi) where
         le-leb (s .first .at + s .step .length) maxTaken (omega (arith, fit-second (several q) (omega arith))),
       )
 
-  pub fit-can-enter : m ≤ maxLength → Fit m i lo hi s → canEnter s ≡ true
-  fit-can-enter l q = lt-ltb (s .held) maxTaken (omega (arith, fit-few q))
+  -- the last is near
+  pub fit-near : (new : Mark) → new .at ≤ hi → (s .held ≡ 0 → ⊥) → Fit m i lo hi s → new .at - s .last .at ≤ m
+  fit-near new h n (idle e) = absurd (n (ap (λ (u : Stage). u .held) e))
+  fit-near new h n (single q) =
+      let last : s .last .at ≡ s .first .at = ap (λ (u : Stage). u .last .at) (q .shape) in
+      omega (arith, q .aged .young, length-within m (suc i))
+  fit-near new h n (several q) = omega (arith, q .last-aged .young, length-within m (suc i))
+
+  pub fit-can-enter : (key : Key) → m ≤ maxLength → (new : Mark) → new .at ≤ hi → Fit m i lo hi s → canEnter s new ≡ true
+  fit-can-enter key l new h q =
+      by-test (eqb (s .held) 0) (λ e. rw e)
+      (λ e.
+      can-enter key s new (omega (arith, fit-few q)) (omega (arith, fit-near new h (eqb-false (s .held) 0 e) q)))
 
 -- What entering a stage with room answers.
 pub enter-room :
     (key : Key) (s : Stage) (new : Mark)
-    → canEnter s ≡ true
+    → canEnter s new ≡ true
     → entryOf key s new ≡ record { stage = entered key s new; aside = asideOf key s new }
 unfolding entryOf
 enter-room key s new e = rw e

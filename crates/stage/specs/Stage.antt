@@ -1,7 +1,7 @@
 -- One stage of a watch: when it misfits (document 01, "Misfit"), and how starts come and go (document 01, "Ladder"). Defined for every
 -- stage, also for those to which no history leads.
 use Prim.Native.Nat.{ℕ, suc, _+_, _-_, _*_, min}
-use mathlib.Core.Bool.{Bool, cond, not, _&&_}
+use mathlib.Core.Bool.{Bool, true, cond, not, _&&_}
 use lib.Dec.{ltb, leb, eqb}
 use Rattle.fingerprint.specs.declared.Key.{Key}
 use Rattle.fingerprint.specs.Fingerprint.{printFits, same, empty, joined, rest}
@@ -14,13 +14,22 @@ use Rattle.stage.specs.declared.Aside.{Aside}
 use Rattle.stage.specs.declared.Aside.the-variants.{Nothing, Set}
 use Rattle.stage.specs.declared.Entry.{Entry}
 
--- The most bytes that a watch takes, and so the last place in a stream: "spent: a stream byte when t = 4294967295".
+-- The most bytes that a watch takes, and so the last place in a stream: "the stream run to 1099511627775 bytes" (document 02, A.5).
 abbrev pub maxTaken : ℕ
-maxTaken = 4294967295
+maxTaken = 1099511627775
+
+-- The most starts that a stage can count, and the longest step that it can say: both have 32 bits.
+abbrev pub maxCount : ℕ
+maxCount = 4294967295
 
 -- The stream's begin: no bytes, whose fingerprint is 0.
 abbrev pub origin : Mark
 origin = record { at = 0; print = empty }
+
+-- t with F_t is no misfit: "the new limit, above which t is a misfit" (A.5); "a fingerprint not below p; .. F_t not 0 at t = 0" are misfits.
+abbrev pub nowFits : Mark → Bool
+nowFits now =
+    leb (now .at) maxTaken && printFits (now .print) && cond (eqb (now .at) 0) (same (now .print) empty) true
 
 abbrev pub noGap : Gap
 noGap = record { length = 0; print = empty }
@@ -126,17 +135,18 @@ abbrev pub quietUntil : ℕ → ℕ → Stage → ℕ
 quietUntil length until s = cond (eqb (s .held) 0) until (min until (s .first .at + length - 1))
 
 -- Calls answer for any stage. One that holds no start, or whose second start would lie past the last place, has none to take off; one that
--- holds as many starts as can be counted takes none. No watch has such a stage where it is called, and what is left of it is nothing.
+-- holds as many starts as can be counted, or whose last start is farther from the newcomer than a step can say, takes none. No watch has
+-- such a stage where it is called, and what is left of it is nothing.
 abbrev pub canTakeOff : Stage → Bool
 canTakeOff s = not (eqb (s .held) 0) && leb (s .first .at + s .step .length) maxTaken
 
 unfoldable pub takeOffOf : Key → Stage → Stage
 takeOffOf key s = cond (canTakeOff s) (takenOff key s) noStage
 
-abbrev pub canEnter : Stage → Bool
-canEnter s = ltb (s .held) maxTaken
+abbrev pub canEnter : Stage → Mark → Bool
+canEnter s new = cond (eqb (s .held) 0) true (ltb (s .held) maxCount && leb (new .at - s .last .at) maxCount)
 
 unfoldable pub entryOf : Key → Stage → Mark → Entry
 entryOf key s new =
-    cond (canEnter s) (record { stage = entered key s new; aside = asideOf key s new })
+    cond (canEnter s new) (record { stage = entered key s new; aside = asideOf key s new })
     (record { stage = noStage; aside = Nothing })

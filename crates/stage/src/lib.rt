@@ -1,23 +1,26 @@
 // One stage of a watch (document 01, "Ladder" and "Misfit"): the starts that it lists, when it misfits, and how starts come and go.
 ghost use mathlib.Core.Path.{_≡_};
-ghost use mathlib.Core.Bool.{true, _&&_};
+ghost use mathlib.Core.Bool.{true};
 ghost use Prim.Native.Nat.{_+_, _-_, _≤_, _<_};
 ghost use Rattle.fingerprint.specs.declared.Key.{Key};
 ghost use Rattle.ladder.specs.Prefix.{prefixLength};
-ghost use Rattle.stage.specs.Stage.{maxTaken, origin, noGap, noStage, sameMark, sameGap, ageFits, noneFits, oneFits, manyFit, stagePrintsFit, reachFits, stageFits, gapTo, forward, alone, takeOffOf, entryOf, ripeAt, quietUntil};
-ghost use Rattle.stage.specs.Stages.{stagesFit, listedFrom, allFrom};
+ghost use Rattle.stage.specs.Stage.{maxTaken, maxCount, origin, nowFits, noGap, noStage, sameMark, sameGap, ageFits, noneFits, oneFits, manyFit, stagePrintsFit, reachFits, stageFits, gapTo, forward, alone, takeOffOf, canEnter, entryOf, ripeAt, quietUntil};
+ghost use Rattle.stage.specs.Stages.{stagesFit, listedFrom};
 use fingerprint::Fingerprint;
 use fingerprint::Key;
 
 // The most bytes that a watch takes, and so the last place in a stream.
-pub const MAX_TAKEN: u32 = 4294967295;
+pub const MAX_TAKEN: u64 = 1099511627775;
+
+// The most starts that a stage counts, and the longest step: both have 32 bits.
+const MAX_COUNT: u32 = 4294967295;
 
 // Places for stages.
 pub const STAGES: usize = 20;
 
 // A place in the stream, with the fingerprint of all bytes before it: a start and its F, or t and F_t.
 pub struct Mark {
-    pub at: u32,
+    pub at: u64,
     pub print: Fingerprint,
 }
 
@@ -37,7 +40,7 @@ pub struct Stage {
 
 // A set that was set aside: first, step and how many.
 pub struct Progression {
-    pub first: u32,
+    pub first: u64,
     pub step: u32,
     pub many: u32,
 }
@@ -55,7 +58,7 @@ pub struct Entry {
 }
 
 // How many bytes stand between two places, none if the second comes first.
-pub fn distance(from: u32, to: u32) -> u32
+pub fn distance(from: u64, to: u64) -> u64
     ensures { λ n. ⌜ n ≡ to - from ⌝ }
 {
     if to < from {
@@ -75,6 +78,20 @@ impl Mark {
         }
     }
 
+    // Whether t with F_t is no misfit.
+    pub fn fits(self) -> bool
+        ensures { λ ok. ⌜ ok ≡ nowFits self ⌝ }
+    {
+        if MAX_TAKEN < self.at {
+            return false;
+        }
+        let print = self.print;
+        if !print.fits() {
+            return false;
+        }
+        signature::running_fits(self.at, print)
+    }
+
     fn equals(self, other: Mark) -> bool
         ensures { λ ok. ⌜ ok ≡ sameMark self other ⌝ }
     {
@@ -88,13 +105,14 @@ impl Mark {
 
     // The block from here to another mark.
     fn gap_to(self, key: Key, to: Mark) -> Gap
+        requires { ⌜ to .at - self .at ≤ maxCount ⌝ }
         ensures { λ g. ⌜ g ≡ gapTo key self to ⌝ }
     {
         let length = distance(self.at, to.at);
         let from = self.print;
         Gap {
-            length,
-            print: to.print.cut(key, from, length as u64),
+            length: length as u32,
+            print: to.print.cut(key, from, length),
         }
     }
 
@@ -106,7 +124,7 @@ impl Mark {
         let length = gap.length;
         let print = gap.print;
         Mark {
-            at: self.at + length,
+            at: self.at + (length as u64),
             print: self.print.join(key, print, length as u64),
         }
     }
@@ -135,28 +153,28 @@ impl Gap {
 }
 
 // Whether t - start is from `short` to `long` - 1.
-fn age_fits(short: u32, long: u32, t: u32, start: u32) -> bool
+fn age_fits(short: u32, long: u32, t: u64, start: u64) -> bool
     ensures { λ ok. ⌜ ok ≡ ageFits short long t start ⌝ }
 {
     if t < start {
         return false;
     }
     let age = t - start;
-    if age < short {
+    if age < (short as u64) {
         return false;
     }
-    age < long
+    age < (long as u64)
 }
 
 // Whether `last` is `first` + n × `step`.
-fn reach_fits(first: u32, last: u32, n: u32, step: u32) -> bool
+fn reach_fits(first: u64, last: u64, n: u32, step: u32) -> bool
     ensures { λ ok. ⌜ ok ≡ reachFits first last n step ⌝ }
 {
     if last < first {
         return false;
     }
     let reach = last - first;
-    (reach as u64) == (n as u64) * (step as u64)
+    reach == (n as u64) * (step as u64)
 }
 
 impl Stage {
@@ -186,7 +204,7 @@ impl Stage {
     }
 
     // Held 0: the rest is 0.
-    fn none_fits(self) -> bool
+    pub fn none_fits(self) -> bool
         ensures { λ ok. ⌜ ok ≡ noneFits self ⌝ }
     {
         let first = self.first;
@@ -203,7 +221,7 @@ impl Stage {
     }
 
     // Held 1: the last is the first, and there is no step.
-    fn one_fits(self, short: u32, long: u32, t: u32) -> bool
+    fn one_fits(self, short: u32, long: u32, t: u64) -> bool
         ensures { λ ok. ⌜ ok ≡ oneFits short long t self ⌝ }
     {
         let first = self.first;
@@ -222,7 +240,7 @@ impl Stage {
     }
 
     // Held 2 or more: a step, which leads from the first to the last.
-    fn many_fit(self, short: u32, long: u32, t: u32) -> bool
+    fn many_fit(self, short: u32, long: u32, t: u64) -> bool
         requires { ⌜ 1 ≤ self .held ⌝ }
         ensures { λ ok. ⌜ ok ≡ manyFit short long t self ⌝ }
     {
@@ -258,7 +276,7 @@ impl Stage {
     }
 
     // Whether the stage is no misfit as stage i of a watch over m bytes, at t.
-    pub fn fits(self, m: u32, i: u32, t: u32) -> bool
+    pub fn fits(self, m: u32, i: u32, t: u64) -> bool
         ensures { λ ok. ⌜ ok ≡ stageFits m i t self ⌝ }
     {
         if self.held == 0 {
@@ -283,7 +301,10 @@ impl Stage {
             return Stage::none();
         }
         let step = self.step;
-        if MAX_TAKEN - self.first.at < step.length {
+        if MAX_TAKEN < self.first.at {
+            return Stage::none();
+        }
+        if MAX_TAKEN - self.first.at < (step.length as u64) {
             return Stage::none();
         }
         let first = self.first.forward(key, step);
@@ -299,19 +320,33 @@ impl Stage {
         }
     }
 
-    // The stage with a newcomer behind its last start. A stage that holds as many as can be counted loses all.
+    // Whether one start more can be counted, and the gap to it, if there is one, said.
+    fn can_enter(self, new: Mark) -> bool
+        ensures { λ ok. ⌜ ok ≡ canEnter self new ⌝ }
+    {
+        if self.held == 0 {
+            return true;
+        }
+        if MAX_COUNT <= self.held {
+            return false;
+        }
+        distance(self.last.at, new.at) <= (MAX_COUNT as u64)
+    }
+
+    // The stage with a newcomer behind its last start. A stage that holds as many as can be counted, or whose last start is too far off, loses
+    // all.
     pub fn enter(self, key: Key, new: Mark) -> Entry
         ensures { λ r. ⌜ r ≡ entryOf key self new ⌝ }
     {
-        if self.held == 0 {
+        if !self.can_enter(new) {
             return Entry {
-                stage: Stage::alone(new),
+                stage: Stage::none(),
                 aside: Aside::Nothing,
             };
         }
-        if MAX_TAKEN <= self.held {
+        if self.held == 0 {
             return Entry {
-                stage: Stage::none(),
+                stage: Stage::alone(new),
                 aside: Aside::Nothing,
             };
         }
@@ -321,7 +356,7 @@ impl Stage {
 
     // The same for a stage that lists a start, where `gap` leads from its last one to the newcomer.
     fn join(self, gap: Gap, new: Mark) -> Entry
-        requires { ⌜ (1 ≤ self .held) × (self .held < maxTaken) ⌝ }
+        requires { ⌜ (1 ≤ self .held) × (self .held < maxCount) × (new .at - self .last .at ≤ maxCount) ⌝ }
         ensures { λ r. ⌜ ((key : Key) → gap ≡ gapTo key (self .last) new → r ≡ entryOf key self new) ⌝ }
     {
         let last = self.last;
@@ -359,13 +394,13 @@ impl Stage {
     }
 
     // Whether the stage's first start is t - |P_i|, of a pattern of m bytes: i is the number of the stage above.
-    pub fn is_ripe(self, m: u32, i: u32, t: u32) -> bool
+    pub fn is_ripe(self, m: u32, i: u32, t: u64) -> bool
         ensures { λ ok. ⌜ ok ≡ ripeAt (prefixLength m i) t self ⌝ }
     {
         if self.held == 0 {
             return false;
         }
-        let length = signature::prefix_length(m, i);
+        let length = signature::prefix_length(m, i) as u64;
         if t < length {
             return false;
         }
@@ -373,7 +408,7 @@ impl Stage {
     }
 
     // Whether the stage lists no start below a count.
-    fn listed_from(self, since: u32) -> bool
+    pub fn listed_from(self, since: u64) -> bool
         ensures { λ ok. ⌜ ok ≡ listedFrom since self ⌝ }
     {
         if self.held == 0 {
@@ -386,13 +421,13 @@ impl Stage {
     }
 
     // `until`, or less: the last t at which the first start is not yet ripe, which it is |P_i| bytes behind itself.
-    pub fn quiet_until(self, m: u32, i: u32, until: u32) -> u32
+    pub fn quiet_until(self, m: u32, i: u32, until: u64) -> u64
         ensures { λ t. ⌜ t ≡ quietUntil (prefixLength m i) until self ⌝ }
     {
         if self.held == 0 {
             return until;
         }
-        let length = signature::prefix_length(m, i);
+        let length = signature::prefix_length(m, i) as u64;
         if until < length {
             return until;
         }
@@ -404,7 +439,7 @@ impl Stage {
 }
 
 // Whether each stage of a watch over m bytes fits at t.
-pub fn stages_fit(stages: [Stage; STAGES], m: u32, t: u32) -> bool
+pub fn stages_fit(stages: [Stage; STAGES], m: u32, t: u64) -> bool
     ensures { λ ok. ⌜ ok ≡ stagesFit m t stages ⌝ }
 {
     let mut i: u32 = 0;
@@ -414,24 +449,6 @@ pub fn stages_fit(stages: [Stage; STAGES], m: u32, t: u32) -> bool
             return false;
         }
         i = i + 1;
-    }
-    true
-}
-
-// Whether, besides, no stage lists a start below a count.
-pub fn stages_fit_from(stages: [Stage; STAGES], m: u32, t: u32, since: u32) -> bool
-    ensures { λ ok. ⌜ ok ≡ (stagesFit m t stages && allFrom since stages) ⌝ }
-{
-    let mut at: u32 = 0;
-    while (at as usize) < STAGES {
-        let stage = stages[at as usize];
-        if !stage.fits(m, at, t) {
-            return false;
-        }
-        if !stage.listed_from(since) {
-            return false;
-        }
-        at = at + 1;
     }
     true
 }

@@ -1,4 +1,5 @@
 // An answer, held against demand 3 by the plain search.
+use crate::bytes::long;
 use crate::compare::ring_number;
 use crate::starts::rung;
 use crate::starts::set_aside;
@@ -61,17 +62,17 @@ fn account_ring(
 fn mix_set(set: Progression, counts: bool, tally: &mut [u32]) {
     if counts {
         mix(tally, set.first);
-        mix(tally, set.step);
-        mix(tally, set.many);
+        mix(tally, long(set.step));
+        mix(tally, long(set.many));
     }
 }
 
 // Takes an answer into the digest.
 pub(crate) fn mix_answer(answer: Answer, tally: &mut [u32]) {
     let ring = answer.ring;
-    mix(tally, answer.comparisons);
-    mix(tally, answer.asides);
-    mix(tally, (ring_number(ring) % 4294967296) as u32);
+    mix(tally, long(answer.comparisons));
+    mix(tally, long(answer.asides));
+    mix(tally, ring_number(ring));
     let mut i: u32 = 0;
     while i < 20 {
         let set = answer.sets[i as usize];

@@ -63,7 +63,7 @@ pub(crate) fn same_matcher(a: Matcher, b: Matcher) -> bool {
 // A ring as a number: 0, or one more than its start.
 pub(crate) fn ring_number(ring: Ring) -> u64 {
     if let Ring::At(start) = ring {
-        return start as u64 + 1;
+        return std::num::wrapping_add_u64(start, 1);
     }
     0
 }

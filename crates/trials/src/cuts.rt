@@ -27,6 +27,7 @@ use crate::tally::STREAMS;
 use crate::tally::count;
 
 mod every; // every.rt: cut at every byte in turn, and each cut alone
+mod late; // late.rt: cut at every byte while t passes what 32 bits hold
 mod layout; // layout.rt: records as document 01 lays them out
 mod lists; // lists.rt: lists of calls, refused ones too
 mod pair; // pair.rt: an uncut watch beside one that is cut
@@ -67,6 +68,8 @@ const TOGETHER: usize = 2;
 
 const LISTS: usize = 3;
 
+const LATE: usize = 4;
+
 // How many bytes a stream has.
 fn stream_size(m: usize, way: usize) -> usize {
     if way == ALONE {
@@ -96,6 +99,10 @@ fn trial(m: usize, i: usize, way: usize, tally: &mut [u32]) {
     }
     if way == ALONE {
         every::each_alone(signature, stream, pattern, shape.key, tally);
+        return;
+    }
+    if way == LATE {
+        late::trial(signature, stream, pattern, shape.key, tally);
         return;
     }
     lists::trial(signature, pattern, shape, tally);
@@ -167,6 +174,14 @@ fn listed(m: usize) -> u32 {
     0
 }
 
+// Cut at every byte by both records, from a late t on, for the same patterns.
+fn passing(m: usize) -> u32 {
+    if m < 1000 {
+        return group(b"past 32 bits", LATE, m, 4, 19);
+    }
+    0
+}
+
 // The failures of two groups.
 fn sum(a: u32, b: u32) -> u32 {
     std::num::wrapping_add_u32(a, b)
@@ -180,6 +195,7 @@ pub(crate) fn all() {
         failures = sum(failures, in_turn(LENGTHS[i]));
         failures = sum(failures, alone(LENGTHS[i]));
         failures = sum(failures, listed(LENGTHS[i]));
+        failures = sum(failures, passing(LENGTHS[i]));
         i = i + 1;
     }
     item(b"failures ", failures);

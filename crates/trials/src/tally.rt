@@ -66,11 +66,11 @@ pub(crate) fn tick(tally: &mut [u32], i: usize, holds: bool) {
 }
 
 // The digest with one number more.
-fn mixed(digest: u32, value: u32) -> u32 {
-    (((digest as u64) * 65599 + (value as u64)) % 4294967291) as u32
+fn mixed(digest: u32, value: u64) -> u32 {
+    (((digest as u64) * 65599 + value % 4294967291) % 4294967291) as u32
 }
 
-fn mix_at(tally: &mut [u32], i: usize, value: u32) {
+fn mix_at(tally: &mut [u32], i: usize, value: u64) {
     if i < tally.len() {
         let digest = mixed(tally[i], value);
         tally[i] = digest;
@@ -78,7 +78,7 @@ fn mix_at(tally: &mut [u32], i: usize, value: u32) {
 }
 
 // Takes a number of an answer into the digest.
-pub(crate) fn mix(tally: &mut [u32], value: u32) {
+pub(crate) fn mix(tally: &mut [u32], value: u64) {
     mix_at(tally, DIGEST, value);
 }
 
@@ -86,7 +86,7 @@ pub(crate) fn mix(tally: &mut [u32], value: u32) {
 pub(crate) fn mix_record(tally: &mut [u32], bytes: &[u8]) {
     let mut i: usize = 0;
     while i < bytes.len() {
-        mix_at(tally, RECORDS, at(bytes, i) as u32);
+        mix_at(tally, RECORDS, at(bytes, i) as u64);
         i = i + 1;
     }
 }

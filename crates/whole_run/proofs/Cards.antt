@@ -7,11 +7,11 @@ use lib.ListN.{length}
 use Rattle.fingerprint.specs.declared.Key.{Key}
 use Rattle.lists.proofs.Laws.{length-tabulate}
 use Rattle.signature.specs.declared.Signature.{Signature}
-use Rattle.signature.specs.Signature.{places, signatureFits, signatureOf}
+use Rattle.signature.specs.Signature.{places, signatureOf}
 use Rattle.made_from.specs.MadeFrom.{MadeSignature}
 use Rattle.made_from.proofs.Made.{made-card}
 use Rattle.record.specs.Layout.{signatureRecord}
-use Rattle.record.specs.Calls.{readRefusal, readSignature}
+use Rattle.record.specs.Calls.{cardJudged, readRefusal, readSignature}
 use Rattle.record.proofs.SignatureRoundTrip as round-trip
 use Rattle.whole_run.specs.Run.{BeginsWith, CardOf, made, read-back}
 use Rattle.whole_run.proofs.Buffers.{begins-rest, put-front}
@@ -36,4 +36,4 @@ pub card-of : {key : Key} {p : List ℕ} {card : Signature} → CardOf key p car
 card-of (made m) = made-card m
 card-of (read-back {card} c lent e buffer b read) =
     let m = card-of c in
-    rw (same-card m buffer (rw (put-front (signatureFits card) (signatureRecord card) lent e) at b) .1) m
+    rw (same-card m buffer (rw (put-front (cardJudged card) (signatureRecord card) lent e) at b) .1) m

@@ -3,7 +3,7 @@
 -- Assumes nothing.
 use Prim.Native.Nat.{ℕ, _≤_, _<_}
 use mathlib.Core.Path.{_≡_, sym, _∙_}
-use mathlib.Core.Bool.{true}
+use mathlib.Core.Bool.{true, false}
 use mathlib.Core.List.{List}
 use lib.ListN.{length, take, drop}
 use borrow.Author.Tests.{le-ltb}
@@ -13,11 +13,13 @@ use Rattle.matcher.specs.declared.Matcher.{Matcher}
 use Rattle.stage.specs.Stage.{maxTaken}
 use Rattle.matcher.specs.Matcher.{matcherFits, freshRefusal}
 use Rattle.matcher.specs.Stroke.{strokeRefusal}
+use Rattle.record.specs.declared.Format.{Format}
+use Rattle.record.specs.declared.Format.the-variants.{Narrow}
 use Rattle.record.specs.Layout.{checkpointRecord}
-use Rattle.record.specs.Calls.{saveRefusal, saveUsed, saveBuffer, behindRefusal, behindBuffer, restoreRefusal, restoredMatcher}
+use Rattle.record.specs.Calls.{canSay, watchJudged, saveRefusal, saveUsed, saveBuffer, behindRefusal, behindBuffer, restoreRefusal, restoredMatcher}
 use Rattle.whole_run.specs.History.{History, bytesOf}
 use Rattle.whole_run.specs.Run.{BeginsWith, CardOf, Call, Run, Wrote}
-use Rattle.whole_run.proofs.Buffers.{put-front, behind-front}
+use Rattle.whole_run.proofs.Buffers.{put-front, parked-says, behind-front}
 use Rattle.whole_run.proofs.Cards.{card-of}
 use Rattle.whole_run.proofs.Tracks.{Tracks, never-misfit, run-tracks, wrote-tracks, resumed, takes-byte, spent}
 
@@ -31,42 +33,52 @@ module _ {key : Key} {p : List ℕ} {card : Signature} (c : CardOf key p card) w
       {bytes : List ℕ} {h : History} → Wrote card bytes h → (buffer : List ℕ) → BeginsWith bytes buffer → restoreRefusal card buffer ≡ 0
   never-refused {bytes} {h} wrote buffer b =
       let r = wrote-tracks c wrote in
-      resumed c (bytesOf h) (r .faithful .within) buffer (rw (r .written) at b) .0
+      resumed c (r .format) (bytesOf h) (r .faithful .within) (r .says) buffer (rw (r .written) at b) .0
 
   module _ {calls : List Call} {w : Matcher} {h : History} (run : Run card calls w h) where
     tracks : Tracks key p card w h
     tracks = run-tracks c run
 
-    -- A parking is refused for want of space alone.
-    pub parking-accepted : (lent : List ℕ) → length (checkpointRecord w) ≤ length lent → saveRefusal w lent ≡ 0
-    parking-accepted lent l =
-        let fits : matcherFits w ≡ true = rw (tracks .watch) (never-misfit c (bytesOf h)) in
-        rw (fits, le-ltb (length lent) (length (checkpointRecord w)) l)
+    fits : matcherFits w ≡ true
+    fits = rw (tracks .watch) (never-misfit c (bytesOf h) (tracks .faithful .within))
+
+    -- A parking is refused for want of space alone, and a narrow one once t is above what it can say, with 18.
+    pub parking-accepted :
+        (f : Format) (lent : List ℕ)
+        → canSay f (w .now .at) ≡ true
+        → length (checkpointRecord f w) ≤ length lent
+        → saveRefusal f w lent ≡ 0
+    parking-accepted f lent s l = rw (fits, s, le-ltb (length lent) (length (checkpointRecord f w)) l)
+
+    pub narrow-refused : (lent : List ℕ) → canSay Narrow (w .now .at) ≡ false → saveRefusal Narrow w lent ≡ 18
+    narrow-refused lent s = rw (fits, s)
 
     same-record :
-        (buffer : List ℕ)
-        → BeginsWith (checkpointRecord w) buffer
+        (f : Format) (buffer : List ℕ)
+        → canSay f (w .now .at) ≡ true
+        → BeginsWith (checkpointRecord f w) buffer
         → (restoreRefusal card buffer ≡ 0) × (restoredMatcher card buffer ≡ w)
-    same-record buffer b =
-        let back = resumed c (bytesOf h) (tracks .faithful .within) buffer (rw (tracks .watch) at b) in
+    same-record f buffer s b =
+        let back = resumed c f (bytesOf h) (tracks .faithful .within) (rw (tracks .watch) at s) buffer (rw (tracks .watch) at b) in
         (back .0, back .1 ∙ sym (tracks .watch))
 
     pub same-watch :
-        (lent buffer : List ℕ)
-        → saveRefusal w lent ≡ 0
-        → BeginsWith (take (saveUsed w lent) (saveBuffer w lent)) buffer
+        (f : Format) (lent buffer : List ℕ)
+        → saveRefusal f w lent ≡ 0
+        → BeginsWith (take (saveUsed f w lent) (saveBuffer f w lent)) buffer
         → (restoreRefusal card buffer ≡ 0) × (restoredMatcher card buffer ≡ w)
-    same-watch lent buffer e b =
-        same-record buffer (rw (put-front (matcherFits w) (checkpointRecord w) lent e) at b)
+    same-watch f lent buffer e b =
+        same-record f buffer (parked-says f w lent e) (rw (put-front (watchJudged f w) (checkpointRecord f w) lent e) at b)
 
     pub same-watch-behind :
-        (lent : List ℕ) (used : ℕ) (buffer : List ℕ)
-        → behindRefusal w lent used ≡ 0
-        → BeginsWith (take (saveUsed w (drop used lent)) (drop used (behindBuffer w lent used))) buffer
+        (f : Format) (lent : List ℕ) (used : ℕ) (buffer : List ℕ)
+        → behindRefusal f w lent used ≡ 0
+        → BeginsWith (take (saveUsed f w (drop used lent)) (drop used (behindBuffer f w lent used))) buffer
         → (restoreRefusal card buffer ≡ 0) × (restoredMatcher card buffer ≡ w)
-    same-watch-behind lent used buffer e b = same-record buffer (rw (behind-front w lent used e) at b)
+    same-watch-behind f lent used buffer e b =
+        same-record f buffer (parked-says f w (drop used lent) e) (rw (behind-front f w lent used e) at b)
 
-    -- "The byte that takes t to 4294967295 is taken; the one after is refused."
+    -- The byte that takes t to 1099511627775 is taken; the one after is refused.
     pub every-stroke-taken : length (bytesOf h) < maxTaken → strokeRefusal w ≡ 0
     every-stroke-taken l = rw (tracks .watch) (takes-byte c (bytesOf h) l 0 .accepted)
 

@@ -32,10 +32,11 @@ use Rattle.whole_run.proofs.Claims.{answers-same, faithful-claim}
 -- - "A card is made from a passage if the maker .. gave this card .. refused calls in between count for nothing": `Made`, after a list of
 --   the maker's calls, `Making`. "The same card read from its record counts too": `read-back` of `CardOf`.
 -- - "The list starts with the fresh watch of that card": `starts` of `Run`. "A stroke brings any byte, to the core or the thin entry":
---   `takes` and `refuses-stroke`, by either `Door`. "A parking is lent any buffer": `parks` and `parks-behind`, refused or not. "A
---   resumption is any that is refused": `refuses-resumption`, under any card from any buffer; "or one under that card from a buffer that
---   begins with a record, unaltered, that a parking wrote earlier, in this list or in another such list for that card": `resumes`, from a
---   buffer that `BeginsWith` bytes that some list `Wrote`.
+--   `takes` and `refuses-stroke`, by either `Door`. "A parking is lent any buffer": `parks` and `parks-behind`, refused or not, and of
+--   either `Format`: "writing a narrow record is a parking too" (document 02, A.5). "A resumption is any that is refused":
+--   `refuses-resumption`, under any card from any buffer; "or one under that card from a buffer that begins with a record, unaltered, that
+--   a parking wrote earlier, in this list or in another such list for that card": `resumes`, from a buffer that `BeginsWith` bytes that
+--   some list `Wrote`.
 -- - "Each stroke and parking gets the watch that the call before it handed back or left, at first the fresh one": a `Run` goes on from the
 --   watch w of the list before the call. "A parking or a refused call leaves it as it was; a resumption puts the parked watch in its
 --   place": the watch at which each of them ends.

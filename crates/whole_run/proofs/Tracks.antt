@@ -14,15 +14,17 @@ use Rattle.signature.specs.declared.Signature.{Signature}
 use Rattle.made_from.specs.MadeFrom.{MadeSignature}
 use Rattle.matcher.specs.declared.Matcher.{Matcher}
 use Rattle.stage.specs.Stage.{maxTaken}
+use Rattle.stage.specs.Stages.{Whole}
 use Rattle.stage.proofs.Stages.{whole-of}
 use Rattle.matcher.specs.Matcher.{matcherFits, fresh}
 use Rattle.matcher.specs.Stroke.{strokeRefusal, strokeAnswer, afterStroke}
 use Rattle.refinement.specs.Refinement.{passageTests, watchOf, Refines}
 use Rattle.refinement.proofs.WatchFits as watch-fits
 use Rattle.refinement.proofs.Passages.{passage-refines}
+use Rattle.record.specs.declared.Format.{Format}
 use Rattle.record.specs.Layout.{checkpointRecord}
-use Rattle.record.specs.Calls.{saveRefusal, saveUsed, saveBuffer, behindRefusal, behindBuffer, restoreRefusal, restoredMatcher}
-use Rattle.record.proofs.CheckpointRoundTrip.{Shaped, restore-accepted, restore-back}
+use Rattle.record.specs.Calls.{canSay, watchJudged, saveRefusal, saveUsed, saveBuffer, behindRefusal, behindBuffer, restoreRefusal, restoredMatcher}
+use Rattle.record.proofs.CheckpointRoundTrip.{restore-accepted, restore-back}
 use Rattle.whole_run.specs.History.{Taken, History, bytesOf}
 use Rattle.whole_run.specs.Run.{
   BeginsWith,
@@ -41,7 +43,7 @@ use Rattle.whole_run.specs.Run.{
   parked-behind,
 }
 use Rattle.whole_run.proofs.Cards.{card-of}
-use Rattle.whole_run.proofs.Buffers.{begins-rest, put-front, behind-front}
+use Rattle.whole_run.proofs.Buffers.{begins-rest, put-front, parked-says, behind-front}
 use Rattle.whole_run.proofs.Histories.{Faithful, faithful-none, faithful-more, bytes-more}
 
 -- The watch is that of the history's bytes, and the history's answers are the ladder's.
@@ -49,34 +51,37 @@ pub record Tracks (key : Key) (p : List ℕ) (card : Signature) (w : Matcher) (h
   pub watch : w ≡ watchOf card (bytesOf h)
   pub faithful : Faithful key p h
 
--- The record is that of the watch of the history's bytes.
+-- The record, wide or narrow, is that of the watch of the history's bytes, and can say how many they are.
 pub record Records (key : Key) (p : List ℕ) (card : Signature) (bytes : List ℕ) (h : History) : Type 0 where
-  pub written : bytes ≡ checkpointRecord (watchOf card (bytesOf h))
+  pub format : Format
+  pub written : bytes ≡ checkpointRecord format (watchOf card (bytesOf h))
+  pub says : canSay format (watchOf card (bytesOf h) .now .at) ≡ true
   pub faithful : Faithful key p h
 
 module _ {key : Key} {p : List ℕ} {card : Signature} (c : CardOf key p card) where
   facts : MadeSignature key p card
   facts = card-of c
 
-  pub never-misfit : (h : List ℕ) → matcherFits (watchOf card h) ≡ true
+  pub never-misfit : (h : List ℕ) → length h ≤ maxTaken → matcherFits (watchOf card h) ≡ true
   never-misfit = watch-fits.fits card (facts .fits)
 
-  shaped : (h : List ℕ) → length h ≤ maxTaken → Shaped (watchOf card h)
+  shaped : (h : List ℕ) → Whole (watchOf card h .stages)
   unfolding watchOf
-  shaped h l = record { stages = whole-of _; now = omega arith }
+  shaped h = whole-of _
 
   -- A resumption from the record of such a watch is accepted and hands the watch back.
   pub resumed :
-      (h : List ℕ)
+      (f : Format) (h : List ℕ)
       → length h ≤ maxTaken
+      → canSay f (watchOf card h .now .at) ≡ true
       → (buffer : List ℕ)
-      → BeginsWith (checkpointRecord (watchOf card h)) buffer
+      → BeginsWith (checkpointRecord f (watchOf card h)) buffer
       → (restoreRefusal card buffer ≡ 0) × (restoredMatcher card buffer ≡ watchOf card h)
   unfolding watchOf
-  resumed h l buffer b =
+  resumed f h l says buffer b =
       let w : Matcher = watchOf card h in
-      rw (begins-rest (checkpointRecord w) buffer b)
-      (restore-accepted w (never-misfit h) (shaped h l) _, restore-back w (never-misfit h) (shaped h l) _)
+      rw (begins-rest (checkpointRecord f w) buffer b)
+      (restore-accepted f w (never-misfit h l) (shaped h) says _, restore-back f w (never-misfit h l) (shaped h) says _)
 
   -- A byte is taken until the count is spent.
   pub takes-byte : (h : List ℕ) → length h < maxTaken → (byte : ℕ) → Refines card (passageTests key p) h byte
@@ -84,7 +89,7 @@ module _ {key : Key} {p : List ℕ} {card : Signature} (c : CardOf key p card) w
 
   pub spent : (h : List ℕ) → length h ≡ maxTaken → strokeRefusal (watchOf card h) ≡ 6
   unfolding watchOf
-  spent h e = rw (never-misfit h, e)
+  spent h e = rw (never-misfit h (omega arith), e)
 
   not-spent : (h : List ℕ) → length h ≤ maxTaken → strokeRefusal (watchOf card h) ≡ 0 → length h < maxTaken
   not-spent h l e =
@@ -118,17 +123,23 @@ module _ {key : Key} {p : List ℕ} {card : Signature} (c : CardOf key p card) w
     unfolding afterStroke
     refused-tracks byte n = rw (ne-eqb (strokeRefusal w) 0 n, afterStroke) q
 
-    written-records : {bytes : List ℕ} → bytes ≡ checkpointRecord w → Records key p card bytes h
-    written-records e = record { written = rw (← q .watch) e; faithful = q .faithful }
+    written-records :
+        (f : Format) → canSay f (w .now .at) ≡ true → {bytes : List ℕ} → bytes ≡ checkpointRecord f w → Records key p card bytes h
+    written-records f s e =
+        record { format = f; written = rw (← q .watch) e; says = rw (← q .watch) s; faithful = q .faithful }
 
-    parked-records : (lent : List ℕ) → saveRefusal w lent ≡ 0 → Records key p card (take (saveUsed w lent) (saveBuffer w lent)) h
-    parked-records lent e = written-records (put-front (matcherFits w) (checkpointRecord w) lent e)
+    parked-records :
+        (f : Format) (lent : List ℕ)
+        → saveRefusal f w lent ≡ 0
+        → Records key p card (take (saveUsed f w lent) (saveBuffer f w lent)) h
+    parked-records f lent e =
+        written-records f (parked-says f w lent e) (put-front (watchJudged f w) (checkpointRecord f w) lent e)
 
     behind-records :
-        (lent : List ℕ) (used : ℕ)
-        → behindRefusal w lent used ≡ 0
-        → Records key p card (take (saveUsed w (drop used lent)) (drop used (behindBuffer w lent used))) h
-    behind-records lent used e = written-records (behind-front w lent used e)
+        (f : Format) (lent : List ℕ) (used : ℕ)
+        → behindRefusal f w lent used ≡ 0
+        → Records key p card (take (saveUsed f w (drop used lent)) (drop used (behindBuffer f w lent used))) h
+    behind-records f lent used e = written-records f (parked-says f w (drop used lent) e) (behind-front f w lent used e)
 
   resumed-tracks :
       {bytes : List ℕ} {h : History} (buffer : List ℕ)
@@ -136,7 +147,10 @@ module _ {key : Key} {p : List ℕ} {card : Signature} (c : CardOf key p card) w
       → BeginsWith bytes buffer
       → Tracks key p card (restoredMatcher card buffer) h
   resumed-tracks {bytes} {h} buffer r b =
-      record { watch = resumed (bytesOf h) (r .faithful .within) buffer (rw (r .written) at b) .1; faithful = r .faithful }
+      record {
+        watch = resumed (r .format) (bytesOf h) (r .faithful .within) (r .says) buffer (rw (r .written) at b) .1;
+        faithful = r .faithful;
+      }
 
   -- One induction over the list of calls and those of the parkings that it resumes.
   pub run-tracks : {calls : List Call} {w : Matcher} {h : History} → Run card calls w h → Tracks key p card w h
@@ -145,14 +159,14 @@ module _ {key : Key} {p : List ℕ} {card : Signature} (c : CardOf key p card) w
         | starts e ↦ fresh-tracks
         | takes door byte small (d → q) e ↦ stroke-tracks q byte e
         | refuses-stroke door byte (d → q) n ↦ refused-tracks q byte n
-        | parks lent (d → q) ↦ q
-        | parks-behind lent used (d → q) ↦ q
+        | parks f lent (d → q) ↦ q
+        | parks-behind f lent used (d → q) ↦ q
         | resumes buffer (d → q) (wrote → r) b e ↦ resumed-tracks buffer r b
         | refuses-resumption other buffer (d → q) n ↦ q
-        | parked lent (d → q) e ↦ parked-records q lent e
-        | parked-behind lent used (d → q) e ↦ behind-records q lent used e
+        | parked f lent (d → q) e ↦ parked-records q f lent e
+        | parked-behind f lent used (d → q) e ↦ behind-records q f lent used e
       ]
 
   pub wrote-tracks : {bytes : List ℕ} {h : History} → Wrote card bytes h → Records key p card bytes h
-  wrote-tracks (parked lent d e) = parked-records (run-tracks d) lent e
-  wrote-tracks (parked-behind lent used d e) = behind-records (run-tracks d) lent used e
+  wrote-tracks (parked f lent d e) = parked-records (run-tracks d) f lent e
+  wrote-tracks (parked-behind f lent used d e) = behind-records (run-tracks d) f lent used e

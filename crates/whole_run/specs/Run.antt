@@ -9,6 +9,7 @@ use Rattle.signature.specs.Made.{Made}
 use Rattle.matcher.specs.declared.Matcher.{Matcher}
 use Rattle.matcher.specs.Matcher.{freshRefusal, fresh}
 use Rattle.matcher.specs.Stroke.{strokeRefusal, strokeAnswer, afterStroke}
+use Rattle.record.specs.declared.Format.{Format}
 use Rattle.record.specs.Calls.{
   writeRefusal,
   writeUsed,
@@ -48,11 +49,11 @@ pub data Door : Type 0 where
   core : Door
   thin : Door
 
--- The calls of a list.
+-- The calls of a list. "Writing a narrow record is a parking too" (document 02, A.5): a parking writes either record.
 pub data Call : Type 0 where
   stroke : Door → ℕ → Call
-  park : List ℕ → Call
-  park-behind : List ℕ → ℕ → Call
+  park : Format → List ℕ → Call
+  park-behind : Format → List ℕ → ℕ → Call
   resume : Signature → List ℕ → Call
 
 mutual
@@ -79,13 +80,13 @@ mutual
         → Run card (calls ++ stroke door byte ∷ []) (afterStroke w byte) h
     -- "A parking is lent any buffer", and may be refused.
     parks :
-        {calls : List Call} {w : Matcher} {h : History} (lent : List ℕ)
+        {calls : List Call} {w : Matcher} {h : History} (f : Format) (lent : List ℕ)
         → Run card calls w h
-        → Run card (calls ++ park lent ∷ []) w h
+        → Run card (calls ++ park f lent ∷ []) w h
     parks-behind :
-        {calls : List Call} {w : Matcher} {h : History} (lent : List ℕ) (used : ℕ)
+        {calls : List Call} {w : Matcher} {h : History} (f : Format) (lent : List ℕ) (used : ℕ)
         → Run card calls w h
-        → Run card (calls ++ park-behind lent used ∷ []) w h
+        → Run card (calls ++ park-behind f lent used ∷ []) w h
     -- "A resumption is any that is refused, or one under that card from a buffer that begins with a record, unaltered, that a parking wrote
     -- earlier, in this list or in another such list for that card"; "a resumption puts the parked watch in its place"; "a record has the
     -- history of its watch at the parking, and resuming it makes that the watch's history".
@@ -105,12 +106,12 @@ mutual
   -- A parking in some such list for the card wrote this record, with this history: the front of the part lent to it.
   pub data Wrote (card : Signature) : List ℕ → History → Type 0 where
     parked :
-        {calls : List Call} {w : Matcher} {h : History} (lent : List ℕ)
+        {calls : List Call} {w : Matcher} {h : History} (f : Format) (lent : List ℕ)
         → Run card calls w h
-        → saveRefusal w lent ≡ 0
-        → Wrote card (take (saveUsed w lent) (saveBuffer w lent)) h
+        → saveRefusal f w lent ≡ 0
+        → Wrote card (take (saveUsed f w lent) (saveBuffer f w lent)) h
     parked-behind :
-        {calls : List Call} {w : Matcher} {h : History} (lent : List ℕ) (used : ℕ)
+        {calls : List Call} {w : Matcher} {h : History} (f : Format) (lent : List ℕ) (used : ℕ)
         → Run card calls w h
-        → behindRefusal w lent used ≡ 0
-        → Wrote card (take (saveUsed w (drop used lent)) (drop used (behindBuffer w lent used))) h
+        → behindRefusal f w lent used ≡ 0
+        → Wrote card (take (saveUsed f w (drop used lent)) (drop used (behindBuffer f w lent used))) h

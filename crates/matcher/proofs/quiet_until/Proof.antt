@@ -1,18 +1,22 @@
 -- `matcher::quiet_until` meets its contract: the loop has seen to the stages below i.
 use borrow.Author.Needs.{needs}
-use Prim.Native.Nat.{_-_, _≤_}
+use Prim.Native.Nat.{suc, _-_, _≤_}
 use native.Mathlib.Nat.{not-suc-le-zero}
 use native.Mathlib.Numerals.{add-one}
 use native.Mathlib.Omega.{arith}
+use Rattle.ladder.specs.Prefix.{prefixLength}
 use Rattle.ladder.proofs.Levels.{levels-bound}
-use Rattle.stage.specs.Stages.{stageCount}
+use Rattle.stage.specs.Stage.{maxTaken}
+use Rattle.stage.specs.Stages.{stageCount, stageAt}
+use Rattle.stage.proofs.Moves.{quiet-most}
 use Rattle.matcher.specs.Skip.{Unripe}
 use Rattle.matcher.proofs.Quiet.{unripe-more}
 use Rattle.matcher.proofs.quiet_until.Statement.{statement}
 use Rattle.matcher.proofs.quiet_until.Tie as tie
 
 abbrev Inv-loop : tie.InvT-loop
-Inv-loop m stages k until₀ i₀ until i = (i ≤ k) × (k ≤ stageCount) × Unripe i m until stages
+Inv-loop m stages k until₀ i₀ until i =
+    (i ≤ k) × (k ≤ stageCount) × (until ≤ maxTaken) × Unripe i m until stages
 
 abbrev μ-loop : tie.MeasureT-loop
 μ-loop m stages k until₀ i₀ until i = k - i
@@ -21,7 +25,7 @@ levels-requires : tie.Need-levels-requires Inv-loop μ-loop
 levels-requires c κs = search needs
 
 loop-holds : tie.Need-loop-holds Inv-loop μ-loop
-loop-holds c = (omega arith, omega (arith, levels-bound (c .before .args .m) (c .before .pre .1)), λ j l. absurd (not-suc-le-zero l))
+loop-holds c = (omega arith, omega (arith, levels-bound (c .before .args .m) (c .before .pre .1)), omega arith, λ j l. absurd (not-suc-le-zero l))
 
 cast-stage : tie.Need-cast-stage Inv-loop μ-loop
 cast-stage c = search needs
@@ -50,10 +54,13 @@ loop-again c =
     let args = c .before .before .before .before .before .args in
     let pre = c .before .before .before .before .before .pre in
     let quiet = rw add-one at (c .quiet-until .ensures) in
-    (omega arith, loop .inv .1, unripe-more (loop .i) (args .m) (args .t1) (pre .0) quiet (loop .inv .2))
+    let most : c .quiet-until .result ≤ loop .until =
+    rw quiet (quiet-most (prefixLength (args .m) (suc (loop .i))) (loop .until) (stageAt (args .t1) (loop .i)))
+    in
+    (omega arith, loop .inv .1, omega (arith, most), unripe-more (loop .i) (args .m) (args .t1) (pre .0) quiet (loop .inv .3))
 
 returns : tie.Need-returns Inv-loop μ-loop
-returns c = λ j l. c .before .loop .inv .2 j (omega arith)
+returns c = (c .before .loop .inv .2, λ j l. c .before .loop .inv .3 j (omega arith))
 
 pub quiet-until-spec : {M : Type 1} → statement M
 quiet-until-spec =

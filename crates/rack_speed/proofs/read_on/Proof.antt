@@ -10,7 +10,7 @@ abbrev Inv-loop : tie.InvT-loop
 Inv-loop input₀ run₀ chunks₀ input run chunks = length input ≡ length input₀
 
 abbrev μ-loop : tie.MeasureT-loop
-μ-loop input₀ run₀ chunks₀ input run chunks = 65537 - chunks
+μ-loop input₀ run₀ chunks₀ input run chunks = 16777217 - chunks
 
 pub read-on-spec : {M : Type 1} → statement M
 read-on-spec =

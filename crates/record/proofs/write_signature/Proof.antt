@@ -1,7 +1,7 @@
 -- `record::write_signature` meets its contract: its tests are the definition's, and the record is written whole.
 use Prim.Native.Nat.{ℕ, _+_}
-use mathlib.Core.Path.{_≡_, sym, _∙_, ap}
-use mathlib.Core.Bool.{true}
+use mathlib.Core.Path.{_≡_, refl, sym, _∙_, ap}
+use mathlib.Core.Bool.{true, false}
 use native.Mathlib.Omega.{arith}
 use borrow.Author.Tests.{not-true, not-false}
 use Rattle.ladder.specs.Prefix.{levels}
@@ -9,8 +9,9 @@ use Rattle.ladder.proofs.Levels.{levels-bound}
 use Rattle.signature.proofs.Card.{sound-card}
 use Rattle.signature.specs.Signature.{signatureFits}
 use Rattle.record.specs.Layout.{signatureLength, signatureRecord}
+use Rattle.record.specs.Calls.{cardJudged}
 use Rattle.record.proofs.Sizes.{signature-size, signature-length-is}
-use Rattle.record.proofs.Assembled.{put-misfit, put-no-room, put-whole}
+use Rattle.record.proofs.Assembled.{put-no-room, put-whole}
 use borrow.Author.Needs.{needs}
 use Rattle.record.proofs.write_signature.Statement.{statement}
 use Rattle.record.proofs.write_signature.Tie as tie
@@ -21,8 +22,8 @@ fits-requires c κs = search needs
 returns : tie.Need-returns
 returns c =
     let a = c .before .before .before .args in
-    put-misfit (signatureFits (a .signature)) (signatureRecord (a .signature)) (a .buf .now)
-    (sym (c .before .fits2 .ensures) ∙ not-true _ (c .if1 .taken))
+    let bad : signatureFits (a .signature) ≡ false = sym (c .before .fits2 .ensures) ∙ not-true _ (c .if1 .taken) in
+    rw bad (refl, (refl, refl))
 
 levels-requires : tie.Need-levels-requires
 levels-requires c κs = search needs
@@ -37,8 +38,8 @@ returns-2 c =
     let good : signatureFits (a .signature) ≡ true = sym (e .before .fits2 .ensures) ∙ not-false _ (e .if1 .left) in
     let due = c .before in
     let size = due .signature-size .ensures ∙ ap (λ (k : ℕ). signatureLength k + 4) (due .before .levels .ensures) in
-    put-no-room (signatureFits (a .signature)) (signatureRecord (a .signature)) (a .buf .now) good
-    (omega (arith, signature-size (a .signature)))
+    put-no-room (cardJudged (a .signature)) (signatureRecord (a .signature)) (a .buf .now) (rw good)
+    (omega (arith, signature-size (a .signature))) refl refl
 
 put-signature-requires : tie.Need-put-signature-requires
 put-signature-requires c κs =
@@ -61,7 +62,7 @@ returns-3 c =
     let whole = signature-size (a .signature) in
     let due = c .before .before .before .before .before in
     let size = due .signature-size .ensures ∙ ap (λ (k : ℕ). signatureLength k + 4) (due .before .levels .ensures) in
-    put-whole (signatureFits (a .signature)) (signatureRecord (a .signature)) (a .buf .now) _ _ good (omega arith) (omega arith)
+    put-whole (cardJudged (a .signature)) (signatureRecord (a .signature)) (a .buf .now) _ _ (rw good) (omega arith) (omega arith)
     (c .before .before .put-signature .ensures)
 
 pub write-signature-spec : {M : Type 1} → statement M

@@ -10,6 +10,7 @@ use Rattle.refusal.specs.Number.{number}
 use Rattle.refusal.proofs.Distinct.{refused-some}
 use Rattle.report_core.specs.Progress.{fed}
 use Rattle.report_core.specs.Calls.{Feeds}
+use Rattle.report_core.proofs.Hearing.{fits-within}
 use Rattle.report.specs.State.{bufferSize, unwritten, taken, refused}
 use Rattle.report.proofs.Passing as Passing
 use borrow.Author.Needs.{needs}
@@ -99,7 +100,7 @@ add-written : tie.Need-add-written Inv-loop μ-loop
 add-written c =
     let f = c .before .before .before .before .before .before .before .before in
     let s = Passing.sound _ _ _ _ _ _ (head f .loop .inv .0) (more f) _ (size f) _ _ (feeds f) (kept f) in
-    omega (arith, s .few, f .feed .ok, counted c)
+    omega (arith, s .few, fits-within _ (s .fits), f .feed .ok, counted c)
 
 enum-told : tie.Need-enum-told Inv-loop μ-loop
 enum-told c = search needs

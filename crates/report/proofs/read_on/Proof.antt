@@ -1,9 +1,7 @@
 -- `report::read_on` meets its contract: each turn keeps what was written the output of what was read, and brings t nearer to its limit.
-use Prim.Native.Nat.{_≤_}
 use mathlib.Core.Path.{_≡_, refl, sym, _∙_}
-use native.Mathlib.Omega.{arith}
 use lib.ListN.{length}
-use Rattle.stage.specs.Stage.{maxTaken}
+use Rattle.report_core.proofs.Hearing.{fits-within}
 use Rattle.report.specs.State.{Stands}
 use Rattle.report.proofs.Standings.{distance, turned, nearer, reading}
 use mathlib.Core.List.{[], _∷_}
@@ -19,13 +17,12 @@ Inv-loop input₀ out₀ s₀ status₀ input out s status =
     × (status ≡ s .status)
     × (length input ≡ length input₀)
     × (length out ≡ length out₀)
-    × (s .progress .matcher .now .at ≤ maxTaken)
 
 abbrev μ-loop : tie.MeasureT-loop
 μ-loop input₀ out₀ s₀ status₀ input out s status = distance status (s .progress .matcher .now .at)
 
 loop-holds : tie.Need-loop-holds Inv-loop μ-loop
-loop-holds c = (c .before .before .pre .0, refl, refl, refl, omega arith)
+loop-holds c = (c .before .before .pre .0, refl, refl, refl)
 
 enum-told : tie.Need-enum-told Inv-loop μ-loop
 enum-told c = search needs
@@ -41,7 +38,7 @@ loop-less c =
     let l = c .before .before .before .before .before .before .before .before .before in
     let told = c .before .before .before .before .before .before .before .enum-told .given .1 in
     let q = reading _ (sym (l .loop .inv .1) ∙ told) (l .loop .inv .0 .1) in
-    rw told (nearer _ _ _ (q .ready) (l .loop .inv .4) (c .before .before .before .before .turn .ensures))
+    rw told (nearer _ _ _ (q .ready) (fits-within _ (q .ready .sound .fits)) (c .before .before .before .before .turn .ensures))
 
 loop-again : tie.Need-loop-again Inv-loop μ-loop
 loop-again c =
@@ -53,7 +50,6 @@ loop-again c =
       refl,
       r .kept .1 .0 ∙ l .loop .inv .2,
       r .kept .1 .1 .0 ∙ l .loop .inv .3,
-      omega (arith, r .ok),
     )
 
 same-length : tie.Need-same-length Inv-loop μ-loop

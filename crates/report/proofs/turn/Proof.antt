@@ -1,6 +1,7 @@
 -- `report::turn` meets its contract: a chunk that was read is counted, and then passed.
 use mathlib.Core.Path.{refl}
 use native.Mathlib.Omega.{arith}
+use Rattle.report_core.proofs.Hearing.{fits-within}
 use Rattle.report.proofs.Standings.{ends, passes}
 use Rattle.report.specs.State as state
 use borrow.Author.Needs.{needs}
@@ -17,7 +18,9 @@ returns : tie.Need-returns
 returns c = state.unread refl refl refl
 
 add-read : tie.Need-add-read
-add-read c = search needs
+add-read c =
+    let ready = c .before .before .before .before .before .before .before .before .before .pre .0 in
+    omega (arith, ready .near, fits-within _ (ready .sound .fits))
 
 same-length-2 : tie.Need-same-length-2
 same-length-2 c = search needs

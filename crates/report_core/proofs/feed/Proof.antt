@@ -4,16 +4,14 @@ use mathlib.Core.Path.{_≡_, sym, _∙_, ap}
 use mathlib.Core.Bool.{true}
 use native.Mathlib.Omega.{arith}
 use borrow.Author.Needs.{needs}
-use borrow.Author.Tests.{not-true, not-false, leb-true}
+use borrow.Author.Tests.{not-true, not-false}
 use lib.ListN.{length}
-use Rattle.lists.proofs.Laws.{and-right}
 use Rattle.refusal.specs.Number.{number}
 use Rattle.refusal.proofs.Distinct.{refused-some}
-use Rattle.matcher.specs.Matcher.{matcherFits}
 use Rattle.report_lines.specs.Lines.{reportLines, hasRoom}
 use Rattle.report_core.specs.Progress.{progressFits, heardWhile, roomIn, fed}
 use Rattle.report_core.proofs.Putting.{PutAt, put-at, put-room, put-none}
-use Rattle.report_core.proofs.Feeding.{Along, along-begin, on-moves, on-fits, on, refused, full, used-up, fed-on, fed-misfit, fed-small, not-fed}
+use Rattle.report_core.proofs.Feeding.{Along, along-begin, on-moves, on-fits, on-limit, on, refused, full, used-up, fed-on, fed-misfit, fed-small, not-fed}
 use Rattle.report_core.proofs.feed.Statement.{statement}
 use Rattle.report_core.proofs.feed.Tie as tie
 
@@ -79,7 +77,7 @@ returns-2 c =
 
 loop-holds : tie.Need-loop-holds Inv-loop μ-loop
 loop-holds c =
-    along-begin _ _ _ (leb-true _ _ (and-right (matcherFits _) _ (fitting (c .before))))
+    along-begin _ _ _ (fitting (c .before))
 
 scan-requires : tie.Need-scan-requires Inv-loop μ-loop
 scan-requires c κs = search needs
@@ -111,7 +109,8 @@ add-total c =
     let u = c .before .before .before in
     let s = scanning u in
     let fits = on-fits _ _ _ _ _ _ _ (head s .loop .inv) (more u) (s .scan .result) (s .scan .ensures) _ _ (lines u) (roomy u) in
-    omega (arith, fits, c .struct-known2 .given)
+    let limit = on-limit _ _ _ _ _ _ _ (head s .loop .inv) (more u) (s .scan .result) (s .scan .ensures) _ _ (lines u) (roomy u) in
+    omega (arith, fits, limit, c .struct-known2 .given)
 
 enum-told-2 : tie.Need-enum-told-2 Inv-loop μ-loop
 enum-told-2 c = search needs

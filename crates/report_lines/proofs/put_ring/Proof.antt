@@ -8,9 +8,6 @@ use Rattle.report_lines.proofs.put_ring.Tie as tie
 enum-known-ring : tie.Need-enum-known-ring
 enum-known-ring c = search needs
 
-cast-began : tie.Need-cast-began
-cast-began c = search needs
-
 slice-aggregate-put-line : tie.Need-slice-aggregate-put-line
 slice-aggregate-put-line c = search needs
 
@@ -34,7 +31,6 @@ put-ring-spec =
     tie.close
     (tie.spec
     enum-known-ring
-    cast-began
     slice-aggregate-put-line
     put-line-requires
     same-length

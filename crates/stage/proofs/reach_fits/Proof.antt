@@ -2,7 +2,6 @@
 use Prim.Native.Nat.{_+_, _*_}
 use mathlib.Core.Path.{sym}
 use native.Mathlib.Omega.{arith}
-use borrow.Author.Needs.{needs}
 use borrow.Author.Tests.{ne-eqb}
 use Rattle.fingerprint.proofs.Modular.{product-wide}
 use Rattle.stage.proofs.Tests.{equal-reach}
@@ -13,9 +12,6 @@ returns : tie.Need-returns
 returns c =
     let a = c .before .args in
     sym (ne-eqb (a .last) (a .first + a .n * a .step) (λ e. omega arith))
-
-cast-result : tie.Need-cast-result
-cast-result c = search needs
 
 mul-result : tie.Need-mul-result
 mul-result c =
@@ -28,4 +24,4 @@ returns-2 c =
     equal-reach (a .last) (a .first) (a .n * a .step) (omega arith)
 
 pub reach-fits-spec : {M : Type 1} → statement M
-reach-fits-spec = tie.close (tie.spec returns cast-result mul-result returns-2)
+reach-fits-spec = tie.close (tie.spec returns mul-result returns-2)

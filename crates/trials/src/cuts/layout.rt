@@ -2,6 +2,7 @@
 use crate::bytes::minus;
 use crate::bytes::plus;
 use crate::bytes::put;
+use crate::bytes::put_long;
 use crate::bytes::put_number;
 use crate::bytes::short;
 use fingerprint::Fingerprint;
@@ -12,8 +13,14 @@ use stage::Mark;
 use stage::Stage;
 
 // The size of a parked record: the length field and what it counts.
-pub(crate) fn record_size(m: u32) -> usize {
-    26 + 28 * (stages(m as usize) as usize)
+pub(crate) fn record_size(m: u32, narrow: bool) -> usize {
+    let k = stages(m as usize) as usize;
+    if narrow { 26 + 28 * k } else { 30 + 36 * k }
+}
+
+// The size of a place of the stream.
+fn place_size(narrow: bool) -> usize {
+    if narrow { 4 } else { 8 }
 }
 
 // The size of a card's record.
@@ -39,49 +46,74 @@ fn number_of(prints: [Fingerprint; 21], i: usize) -> u32 {
     print.number()
 }
 
+// A place of the stream: in 4 bytes of a narrow record, in 8 of a wide one.
+fn put_place(buffer: &mut [u8], at: usize, place: u64, narrow: bool) {
+    if narrow {
+        put_number(buffer, at, (place % 4294967296) as u32);
+        return;
+    }
+    put_long(buffer, at, place);
+}
+
 // A start and its F, or t and F_t.
-fn put_mark(buffer: &mut [u8], at: usize, mark: Mark) {
-    put_number(buffer, at, mark.at);
-    put_number(buffer, plus(at, 4), mark.print.number());
+fn put_mark(buffer: &mut [u8], at: usize, mark: Mark, narrow: bool) {
+    put_place(buffer, at, mark.at, narrow);
+    put_number(buffer, plus(at, place_size(narrow)), mark.print.number());
 }
 
 // held, first, F_first, last, F_last, step, step print.
-fn put_stage(buffer: &mut [u8], at: usize, stage: Stage) {
+fn put_stage(buffer: &mut [u8], at: usize, stage: Stage, narrow: bool) {
     let step = stage.step;
+    let first = plus(at, 4);
+    let last = plus(plus(first, place_size(narrow)), 4);
+    let gap = plus(plus(last, place_size(narrow)), 4);
     put_number(buffer, at, stage.held);
-    put_mark(buffer, plus(at, 4), stage.first);
-    put_mark(buffer, plus(at, 12), stage.last);
-    put_number(buffer, plus(at, 20), step.length);
-    put_number(buffer, plus(at, 24), step.print.number());
+    put_mark(buffer, first, stage.first, narrow);
+    put_mark(buffer, last, stage.last, narrow);
+    put_number(buffer, gap, step.length);
+    put_number(buffer, plus(gap, 4), step.print.number());
+}
+
+// Where stage i stands behind the first.
+fn stage_at(i: usize, narrow: bool) -> usize {
+    if narrow { i % 20 * 28 } else { i % 20 * 36 }
 }
 
 // Stage i of the k that a record has, nothing past them.
-fn put_stage_of(buffer: &mut [u8], at: usize, stage: Stage, i: usize, k: usize) {
+fn put_stage_of(buffer: &mut [u8], at: usize, stage: Stage, i: usize, k: usize, narrow: bool) {
     if i < k {
-        put_stage(buffer, plus(at, i % 20 * 28), stage);
+        put_stage(buffer, plus(at, stage_at(i, narrow)), stage, narrow);
     }
 }
 
 // The first k stages, from a place on.
-fn put_stages(buffer: &mut [u8], at: usize, stages: [Stage; 20], k: usize) {
+fn put_stages(buffer: &mut [u8], at: usize, stages: [Stage; 20], k: usize, narrow: bool) {
     let mut i: usize = 0;
     while i < 20 {
         let stage = stages[i];
-        put_stage_of(buffer, at, stage, i, k);
+        put_stage_of(buffer, at, stage, i, k, narrow);
         i = i + 1;
     }
 }
 
-// A parked watch, from a place on: kind 4, m, r, the fingerprint of P_k, t, F_t, then the stages.
-pub(crate) fn put_watch(buffer: &mut [u8], at: usize, w: Matcher) {
+// A parked watch, from a place on: kind 4 or 5, m, r, the fingerprint of P_k, t, F_t, then the stages.
+pub(crate) fn put_watch(buffer: &mut [u8], at: usize, w: Matcher, narrow: bool) {
     let signature = w.signature;
     let prints = signature.prints;
     let listed = w.stages;
     let k = stages(signature.length as usize) as usize;
-    put_head(buffer, at, record_size(signature.length), 4, signature);
+    let kind = if narrow { 4 } else { 5 };
+    let size = record_size(signature.length, narrow);
+    put_head(buffer, at, size, kind, signature);
     put_number(buffer, plus(at, 14), number_of(prints, k));
-    put_mark(buffer, plus(at, 18), w.now);
-    put_stages(buffer, plus(at, 26), listed, k);
+    put_mark(buffer, plus(at, 18), w.now, narrow);
+    put_stages(
+        buffer,
+        plus(plus(at, 22), place_size(narrow)),
+        listed,
+        k,
+        narrow,
+    );
 }
 
 // The fingerprint of P_i, for i up to k.

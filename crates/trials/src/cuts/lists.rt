@@ -13,8 +13,10 @@ use crate::cards::accepted;
 use crate::cuts::layout::record_size;
 use crate::cuts::parking::FILLER;
 use crate::cuts::parking::ROOM;
+use crate::cuts::parking::is_narrow;
 use crate::cuts::parking::park_behind;
 use crate::cuts::parking::resume;
+use crate::cuts::parking::save_in;
 use crate::generator::Shape;
 use crate::generator::Source;
 use crate::generator::begun;
@@ -35,7 +37,6 @@ use matcher::Stroke;
 use record::Written;
 use record::checkpoint::Restored;
 use record::checkpoint::restore;
-use record::checkpoint::save;
 use signature::Signature;
 
 // Where a list of calls stands: the watch, how many bytes its history has, where the bytes come from, the generator's state, and the
@@ -119,11 +120,10 @@ fn keep(
 ) -> Walk {
     let base = slot % 3 * SLOT;
     let matcher = walk.matcher;
-    park_behind(matcher, kept, base, tally);
-    mix_record(
-        tally,
-        front(behind(kept, base), record_size(matcher.signature.length)),
-    );
+    let narrow = below(next(next(walk.state)), 2) == 1;
+    park_behind(matcher, narrow, kept, base, tally);
+    let size = record_size(matcher.signature.length, narrow);
+    mix_record(tally, front(behind(kept, base), size));
     keep_history(kept, base, walk.t, stream, marks);
     let mut parked = walk.parked;
     parked[slot % 3] = matcher;
@@ -149,7 +149,8 @@ fn go_back(
     let parked = walk.parked[slot % 3];
     copy(kept, plus(base, PART), stream, 0, PART);
     copy(kept, plus(base, 2 * PART), marks, 0, PART);
-    let matcher = resume(signature, behind(kept, base), parked, tally);
+    let narrow = at(kept, plus(base, 4)) == 4;
+    let matcher = resume(signature, narrow, behind(kept, base), parked, tally);
     Walk {
         matcher,
         t: kept_length(kept, base),
@@ -176,11 +177,11 @@ fn go_back_if_kept(
 }
 
 // Parks a watch in the first n bytes of a buffer.
-fn park_in(w: Matcher, buffer: &mut [u8], n: usize) -> Written {
+fn park_in(w: Matcher, narrow: bool, buffer: &mut [u8], n: usize) -> Written {
     if n <= buffer.len() {
-        return save(w, &mut buffer[0..n]);
+        return save_in(w, narrow, &mut buffer[0..n]);
     }
-    save(w, buffer)
+    save_in(w, narrow, buffer)
 }
 
 // Whether a parking was refused for want of space, and the buffer is what it was.
@@ -191,15 +192,16 @@ fn is_short(written: Written, buffer: &[u8]) -> bool {
 
 // A parking in a buffer that is a byte too short: refused.
 fn park_short(walk: Walk, tally: &mut [u32]) -> Walk {
-    let size = record_size(walk.matcher.signature.length);
+    let narrow = is_narrow(walk.matcher.now.at);
+    let size = record_size(walk.matcher.signature.length, narrow);
     let mut buffer = [FILLER; ROOM];
-    let written = park_in(walk.matcher, &mut buffer, minus(size, 1));
+    let written = park_in(walk.matcher, narrow, &mut buffer, minus(size, 1));
     tick(tally, REFUSED, is_short(written, &buffer));
     walk
 }
 
 // Damages of a record: a byte's place, its new value, and the refusal due. A length that the buffer hasn't, another kind, another m, and
-// an F_t not below p.
+// an F_t not below p, or in a wide record a t above the last.
 const PLACES: [usize; 4] = [3, 4, 9, 25];
 
 const VALUES: [u8; 4] = [255, 2, 3, 255];
@@ -209,7 +211,7 @@ const DUE: [u32; 4] = [8, 9, 11, 10];
 // A record, damaged in some way, is resumed.
 fn damaged(w: Matcher, signature: Signature, way: usize) -> Restored {
     let mut buffer = [FILLER; ROOM];
-    save(w, &mut buffer);
+    save_in(w, is_narrow(w.now.at), &mut buffer);
     put(&mut buffer, PLACES[way % 4], VALUES[way % 4]);
     restore(signature, &buffer)
 }

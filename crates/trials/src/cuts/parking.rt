@@ -21,6 +21,8 @@ use record::checkpoint::Restored;
 use record::checkpoint::restore;
 use record::checkpoint::save;
 use record::checkpoint::save_behind;
+use record::checkpoint::save_narrow;
+use record::checkpoint::save_narrow_behind;
 use record::read_signature;
 use record::write_signature;
 use signature::Signature;
@@ -29,14 +31,14 @@ use signature::Signature;
 pub const FILLER: u8 = 170;
 
 // A buffer longer than any record, and one longer than any buffer in which watches are parked one behind another.
-pub const ROOM: usize = 600;
+pub const ROOM: usize = 800;
 
 const LARGEST: usize = 6144;
 
 // What a buffer must hold once a watch is parked in it from a place on: the record as document 01 lays it out, all else as it was.
-fn foresee(w: Matcher, buffer: &[u8], at: usize, wanted: &mut [u8]) {
+fn foresee(w: Matcher, narrow: bool, buffer: &[u8], at: usize, wanted: &mut [u8]) {
     copy(buffer, 0, wanted, 0, buffer.len());
-    put_watch(wanted, at, w);
+    put_watch(wanted, at, w, narrow);
 }
 
 // Whether a writer was accepted, says so many used bytes and left a buffer as it was foreseen.
@@ -45,22 +47,49 @@ fn is_written(written: Written, used: usize, wanted: &[u8], buffer: &[u8]) -> bo
     accepted(verdict) && written.used == used && !differs(wanted, 0, buffer)
 }
 
-// Parks a watch in the front of a buffer of at most 600 bytes.
-fn park(w: Matcher, buffer: &mut [u8], tally: &mut [u32]) {
+// Parks a watch in the front of a buffer, in either record.
+pub(crate) fn save_in(w: Matcher, narrow: bool, buffer: &mut [u8]) -> Written {
+    if narrow {
+        return save_narrow(w, buffer);
+    }
+    save(w, buffer)
+}
+
+// The same behind a used part.
+fn save_in_behind(w: Matcher, narrow: bool, buffer: &mut [u8], used: usize) -> Written {
+    if narrow {
+        return save_narrow_behind(w, buffer, used);
+    }
+    save_behind(w, buffer, used)
+}
+
+// Every other parking is narrow.
+pub(crate) fn is_narrow(n: u64) -> bool {
+    n % 2 == 1
+}
+
+// Parks a watch in the front of a buffer of at most 800 bytes.
+fn park(w: Matcher, narrow: bool, buffer: &mut [u8], tally: &mut [u32]) {
     let mut wanted = [0u8; ROOM];
-    foresee(w, buffer, 0, &mut wanted);
-    let written = save(w, buffer);
-    let size = record_size(w.signature.length);
+    foresee(w, narrow, buffer, 0, &mut wanted);
+    let written = save_in(w, narrow, buffer);
+    let size = record_size(w.signature.length, narrow);
     tick(tally, PARKED, is_written(written, size, &wanted, buffer));
 }
 
 // Parks a watch behind the used bytes of a buffer of at most 6144 bytes, and hands back the new used length. The used bytes stay as they
 // were, and so do those behind the record.
-pub(crate) fn park_behind(w: Matcher, buffer: &mut [u8], used: usize, tally: &mut [u32]) -> usize {
+pub(crate) fn park_behind(
+    w: Matcher,
+    narrow: bool,
+    buffer: &mut [u8],
+    used: usize,
+    tally: &mut [u32],
+) -> usize {
     let mut wanted = [0u8; LARGEST];
-    foresee(w, buffer, used, &mut wanted);
-    let written = save_behind(w, buffer, used);
-    let end = plus(used, record_size(w.signature.length));
+    foresee(w, narrow, buffer, used, &mut wanted);
+    let written = save_in_behind(w, narrow, buffer, used);
+    let end = plus(used, record_size(w.signature.length, narrow));
     tick(tally, PARKED, is_written(written, end, &wanted, buffer));
     written.used
 }
@@ -74,25 +103,31 @@ fn is_resumed(restored: Restored, size: usize, parked: Matcher) -> bool {
 // Resumes a watch under its card.
 pub(crate) fn resume(
     signature: Signature,
+    narrow: bool,
     buffer: &[u8],
     parked: Matcher,
     tally: &mut [u32],
 ) -> Matcher {
     let restored = restore(signature, buffer);
-    let size = record_size(signature.length);
+    let size = record_size(signature.length, narrow);
     tick(tally, RESUMED, is_resumed(restored, size, parked));
     restored.matcher
 }
 
-// Parks a watch and resumes it.
-pub(crate) fn cut(w: Matcher, signature: Signature, tally: &mut [u32]) -> Matcher {
+// Parks a watch in either record and resumes it.
+pub(crate) fn cut_in(w: Matcher, narrow: bool, signature: Signature, tally: &mut [u32]) -> Matcher {
     let mut record = [FILLER; ROOM];
-    park(w, &mut record, tally);
-    mix_record(tally, front(&record, record_size(signature.length)));
-    resume(signature, &record, w, tally)
+    park(w, narrow, &mut record, tally);
+    mix_record(tally, front(&record, record_size(signature.length, narrow)));
+    resume(signature, narrow, &record, w, tally)
 }
 
-// Writes a card into the front of a buffer of at most 600 bytes: as document 01 lays it out, all else as it was.
+// The same, in a narrow record at every other t.
+pub(crate) fn cut(w: Matcher, signature: Signature, tally: &mut [u32]) -> Matcher {
+    cut_in(w, is_narrow(w.now.at), signature, tally)
+}
+
+// Writes a card into the front of a buffer of at most 800 bytes: as document 01 lays it out, all else as it was.
 fn write(signature: Signature, buffer: &mut [u8], tally: &mut [u32]) {
     let mut wanted = [0u8; ROOM];
     copy(buffer, 0, &mut wanted, 0, buffer.len());

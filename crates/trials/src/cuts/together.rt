@@ -12,6 +12,7 @@ use crate::cuts::pair::finish;
 use crate::cuts::pair::pair_of;
 use crate::cuts::pair::strike;
 use crate::cuts::parking::FILLER;
+use crate::cuts::parking::is_narrow;
 use crate::cuts::parking::park_behind;
 use crate::cuts::parking::resume;
 use crate::starts::settle;
@@ -29,10 +30,8 @@ const SIZES: [usize; 4] = [1, 5, 64, 2049];
 
 const KEYS: [u32; 4] = [2, 1000003, 3, 2147483646];
 
-// What the four records take, 26 + 28 for each stage, and a buffer with some room behind them.
-const USED: usize = 692;
-
-const ROOM: usize = 700;
+// A buffer with some room behind the four records, of which every other is narrow: they take 748 or 820 bytes.
+const ROOM: usize = 828;
 
 // The marks of each watch's starts.
 const MARKS: usize = 4096;
@@ -133,21 +132,33 @@ fn judge_all(
     pairs
 }
 
+// Whether the watch of pair number i is parked in a narrow record.
+fn is_narrow_at(pair: Pair, i: usize) -> bool {
+    is_narrow(pair.resumed.now.at % 2 + i as u64 % 2)
+}
+
 // Parks each watch behind the last.
 fn park_all(pairs: [Pair; 4], buffer: &mut [u8], tally: &mut [u32]) -> usize {
     let mut used: usize = 0;
     let mut i: usize = 0;
     while i < 4 {
         let pair = pairs[i];
-        used = park_behind(pair.resumed, buffer, used, tally);
+        used = park_behind(pair.resumed, is_narrow_at(pair, i), buffer, used, tally);
         i = i + 1;
     }
     used
 }
 
 // Resumes the watch of a pair from its place.
-fn resume_one(pair: Pair, card: Signature, buffer: &[u8], place: usize, tally: &mut [u32]) -> Pair {
-    let resumed = resume(card, behind(buffer, place), pair.resumed, tally);
+fn resume_one(
+    pair: Pair,
+    narrow: bool,
+    card: Signature,
+    buffer: &[u8],
+    place: usize,
+    tally: &mut [u32],
+) -> Pair {
+    let resumed = resume(card, narrow, behind(buffer, place), pair.resumed, tally);
     pair_of(pair.uncut, resumed)
 }
 
@@ -164,9 +175,10 @@ fn resume_all(
     while i < 4 {
         let card = cards[i];
         let pair = pairs[i];
-        let next = resume_one(pair, card, buffer, place, tally);
+        let narrow = is_narrow_at(pair, i);
+        let next = resume_one(pair, narrow, card, buffer, place, tally);
         pairs[i] = next;
-        place = plus(place, record_size(card.length));
+        place = plus(place, record_size(card.length, narrow));
         i = i + 1;
     }
     pairs
@@ -176,8 +188,8 @@ fn resume_all(
 fn cut_all(pairs: [Pair; 4], cards: [Signature; 4], tally: &mut [u32]) -> [Pair; 4] {
     let mut buffer = [FILLER; ROOM];
     let used = park_all(pairs, &mut buffer, tally);
-    expect(tally, used == USED);
-    mix_record(tally, front(&buffer, USED));
+    expect(tally, used == 748 || used == 820);
+    mix_record(tally, front(&buffer, used));
     resume_all(pairs, cards, &buffer, tally)
 }
 

@@ -1,4 +1,5 @@
 // The longest pattern, 1048576 bytes. The bytes of the pattern and of its streams are computed where they are wanted, and lie in no buffer.
+use crate::bytes::long;
 use crate::bytes::minus;
 use crate::bytes::plus;
 use crate::bytes::short;
@@ -126,7 +127,7 @@ fn judge(answer: Answer, t: usize, period: usize, altered: usize, tally: &mut [u
     add(tally, OCCURRENCES, one_if(wanted != 0));
     add(tally, RINGS, one_if(heard != 0));
     add(tally, COMPARISONS, answer.comparisons);
-    mix(tally, answer.comparisons);
+    mix(tally, long(answer.comparisons));
 }
 
 // Byte number t to the core and the thin entry.

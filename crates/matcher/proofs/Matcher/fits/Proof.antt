@@ -22,8 +22,8 @@ returns-2 c =
     let if1 = c .before .before .if1 in
     rw (← fits2 .ensures, not-false (fits2 .result) (if1 .left), ← c .before .fits3 .ensures, not-true (c .before .fits3 .result) (c .if2 .taken))
 
-running-fits-requires : tie.Need-running-fits-requires
-running-fits-requires c κs = search needs
+stages-fit-requires : tie.Need-stages-fit-requires
+stages-fit-requires c κs = search needs
 
 returns-3 : tie.Need-returns-3
 unfolding matcherFits
@@ -32,46 +32,8 @@ returns-3 c =
     let if1 = c .before .before .before .before .if1 in
     let fits3 = c .before .before .before .fits3 in
     let if2 = c .before .before .if2 in
-    rw (
-      ← fits2 .ensures,
-      not-false (fits2 .result) (if1 .left),
-      ← fits3 .ensures,
-      not-false (fits3 .result) (if2 .left),
-      ← c .before .running-fits .ensures,
-      not-true (c .before .running-fits .result) (c .if3 .taken),
-    )
-
-stages-fit-requires : tie.Need-stages-fit-requires
-stages-fit-requires c κs = search needs
-
-returns-4 : tie.Need-returns-4
-unfolding matcherFits
-returns-4 c =
-    let fits2 = c .before .before .before .before .before .before .before .fits2 in
-    let if1 = c .before .before .before .before .before .before .if1 in
-    let fits3 = c .before .before .before .before .before .fits3 in
-    let if2 = c .before .before .before .before .if2 in
-    let running-fits = c .before .before .before .running-fits in
-    let if3 = c .before .before .if3 in
-    rw (
-      ← fits2 .ensures,
-      not-false (fits2 .result) (if1 .left),
-      ← fits3 .ensures,
-      not-false (fits3 .result) (if2 .left),
-      ← running-fits .ensures,
-      not-false (running-fits .result) (if3 .left),
-    )
+    rw (← fits2 .ensures, not-false (fits2 .result) (if1 .left), ← fits3 .ensures, not-false (fits3 .result) (if2 .left))
     (c .stages-fit .ensures)
 
 pub fits-spec : {M : Type 1} → statement M
-fits-spec =
-    tie.close
-    (tie.spec
-    fits-requires
-    returns
-    fits-requires-2
-    returns-2
-    running-fits-requires
-    returns-3
-    stages-fit-requires
-    returns-4)
+fits-spec = tie.close (tie.spec fits-requires returns fits-requires-2 returns-2 stages-fit-requires returns-3)

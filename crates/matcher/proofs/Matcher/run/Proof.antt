@@ -36,7 +36,7 @@ passed c =
     rw (c .distance .ensures)
     (run-skip (args .self) (args .input .now) (args .from)
     (record { signature = args .self .signature; now = loop .now; stages = loop .stages })
-    (loop .at) (loop .comparisons) (loop .inv) (quiet-until .result) (omega arith) (quiet-until .ensures) (c .before .skip .result) (c .before .skip .ensures))
+    (loop .at) (loop .comparisons) (loop .inv) (quiet-until .result) (quiet-until .ensures .0) (quiet-until .ensures .1) (c .before .skip .result) (c .before .skip .ensures))
 
 -- the card's length is one that a card can have
 shifts-requires : tie.Need-shifts-requires Inv-loop μ-loop
@@ -50,7 +50,7 @@ loop-holds : tie.Need-loop-holds Inv-loop μ-loop
 loop-holds c =
     let args = c .before .before .before .before .before .before .before .args in
     let pre = c .before .before .before .before .before .before .before .pre in
-    run-begin (args .self) (args .input .now) (args .from) (pre .0) (omega arith) (pre .1)
+    run-begin (args .self) (args .input .now) (args .from) (pre .0) (pre .1)
 
 quiet-until-requires : tie.Need-quiet-until-requires Inv-loop μ-loop
 quiet-until-requires c κs =
@@ -60,13 +60,12 @@ quiet-until-requires c κs =
     (card-of q .long, card-of q .short)
 
 skip-requires : tie.Need-skip-requires Inv-loop μ-loop
-skip-requires c κs = c .before .before .loop .inv .within
+skip-requires c κs =
+    let inv = c .before .before .loop .inv in
+    (inv .within, c .quiet-until .ensures .0, inv .room)
 
 distance-requires : tie.Need-distance-requires Inv-loop μ-loop
 distance-requires c κs = search needs
-
-cast-at : tie.Need-cast-at Inv-loop μ-loop
-cast-at c = search needs
 
 add-at : tie.Need-add-at Inv-loop μ-loop
 add-at c = omega (arith, passed c .within)
@@ -104,7 +103,7 @@ add-at-2 c = omega (arith, c .before .before .before .before .if1 .taken)
 climb-requires : tie.Need-climb-requires Inv-loop μ-loop
 climb-requires c κs =
     let q = sound _ (passed (c .before .before .before .before .before) .fits) in
-    rw (c .next-mark .ensures) (card-of q .long, card-of q .short, refl, stages-fit _ q)
+    rw (c .next-mark .ensures) (card-of q .long, card-of q .short, refl, omega arith, stages-fit _ q)
 
 -- the byte's walk: the powers are those of the card's key
 climbed :
@@ -117,9 +116,6 @@ climbed :
 climbed c =
     let far = c .before .before .before .before .before .before .before .before in
     c .climb .ensures (far .before .before .before .before .before .shifts .ensures)
-
-cast-comparisons-2 : tie.Need-cast-comparisons-2 Inv-loop μ-loop
-cast-comparisons-2 c = search needs
 
 add-comparisons-2 : tie.Need-add-comparisons-2 Inv-loop μ-loop
 add-comparisons-2 c =
@@ -205,9 +201,7 @@ run-spec =
     quiet-until-requires
     skip-requires
     distance-requires
-    cast-at
     add-at
-    cast-comparisons
     add-comparisons
     moved-requires
     silent-requires
@@ -216,7 +210,7 @@ run-spec =
     next-mark-requires
     add-at-2
     climb-requires
-    cast-comparisons-2
+    cast-comparisons
     add-comparisons-2
     is-silent-requires
     moved-requires-2

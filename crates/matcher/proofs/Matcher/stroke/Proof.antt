@@ -1,5 +1,6 @@
 -- `matcher::Matcher::stroke` meets its contract: each `return` has the tests that lead to it.
 use borrow.Author.Needs.{needs}
+use native.Mathlib.Omega.{arith}
 use mathlib.Core.Path.{refl, sym, _∙_}
 use borrow.Author.Tests.{not-true, not-false, lt-ltb, le-ltb}
 use Rattle.matcher.specs.Stroke.{strokeAnswer, afterStroke}
@@ -43,7 +44,7 @@ climb-requires c κs =
     let if1 = c .before .before .before .before .before .before .before .if1 in
     let fits2 = c .before .before .before .before .before .before .before .before .fits2 in
     let q = sound (args .self) (sym (fits2 .ensures) ∙ not-false (fits2 .result) (if1 .left)) in
-    rw (c .before .next-mark .ensures) (card-of q .long, card-of q .short, refl, stages-fit (args .self) q)
+    rw (c .before .next-mark .ensures) (card-of q .long, card-of q .short, refl, omega arith, stages-fit (args .self) q)
 
 moved-requires : tie.Need-moved-requires
 moved-requires c κs = search needs

@@ -7,10 +7,10 @@ use Rattle.rack_trials.proofs.runs.runs.Statement.{statement}
 use Rattle.rack_trials.proofs.runs.runs.Tie as tie
 
 abbrev Inv-loop : tie.InvT-loop
-Inv-loop key tally₀ cards₀ tally cards = length tally ≡ length tally₀
+Inv-loop key from tally₀ cards₀ tally cards = length tally ≡ length tally₀
 
 abbrev μ-loop : tie.MeasureT-loop
-μ-loop key tally₀ cards₀ tally cards = 18 - cards
+μ-loop key from tally₀ cards₀ tally cards = 18 - cards
 
 pub runs-spec : {M : Type 1} → statement M
 runs-spec =

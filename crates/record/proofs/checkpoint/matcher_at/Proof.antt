@@ -25,10 +25,10 @@ unfolding matcherAt
 returns c =
     let a = c .before .before .before .before .args in
     let s = a .buf .now in
-    let now = c .before .before .mark-at .ensures ∙ ap markFrom (sym (now-place s (levels (a .signature .length)))) in
+    let now = c .before .before .mark-at .ensures ∙ ap markFrom (sym (now-place (a .format) s (levels (a .signature .length)))) in
     let stages =
     c .stages-at .ensures
-    ∙ ap (λ (k : ℕ). tabulate (stagePlace (valuesAt s 0 (checkpointWidths k)) k) stageCount) (c .before .levels .ensures)
+    ∙ ap (λ (k : ℕ). tabulate (stagePlace (valuesAt s 0 (checkpointWidths (a .format) k)) k) stageCount) (c .before .levels .ensures)
     in
     λ i. record { signature = a .signature; now = now i; stages = stages i }
 

@@ -1,7 +1,7 @@
 -- `record::checkpoint::put_checkpoint` meets its contract: the head and the fields, one behind another, are the record.
 use Prim.Native.Nat.{_-_}
 use native.Mathlib.Omega.{arith}
-use Rattle.record.proofs.Sizes.{checkpoint-length-is}
+use Rattle.record.proofs.Sizes.{checkpoint-whole, stages-at-most, longest-wide}
 use Rattle.record.proofs.Assembled.{checkpoint-put}
 use borrow.Author.Needs.{needs}
 use Rattle.record.proofs.checkpoint.put_checkpoint.Statement.{statement}
@@ -21,7 +21,12 @@ sub-put-head c = search needs
 
 cast-put-head : tie.Need-cast-put-head
 cast-put-head c =
-    let a = c .before .before .before .before .before .before .before .before .args in omega (arith, checkpoint-length-is (a .k))
+    let start = c .before .before .before .before .before .before .before .before in
+    let a = start .args in
+    omega (arith, checkpoint-whole (a .format) (a .k), stages-at-most (a .format) (a .k) (start .pre .1), longest-wide (a .format))
+
+kind-requires : tie.Need-kind-requires
+kind-requires c κs = search needs
 
 put-head-requires : tie.Need-put-head-requires
 put-head-requires c κs = search needs
@@ -52,12 +57,14 @@ returns c =
     let key = last .before .before .before .before in
     let m = key .before .before .before .before in
     let head = m .before .before .before .before in
-    let start = head .before .before .before .before .before .before .before .before .before in
-    let size = head .before .checkpoint-size in
+    let kind = head .before .kind .ensures in
+    let size = head .before .before .checkpoint-size in
+    let start = head .before .before .before .before .before .before .before .before .before .before in
+    let f = start .args .format in
     let l = start .args .buf .now in
-    checkpoint-put (start .args .matcher) (start .args .k) (size .result - 4) l (head .put-head .last .0) (m .put-word .last .0)
+    checkpoint-put f (start .args .matcher) (start .args .k) (size .result - 4) l (head .put-head .last .0) (m .put-word .last .0)
     (key .put-key .last .0) (last .put-print .last .0) (now .put-mark .last .0) _ (start .pre .0)
-    (omega (arith, checkpoint-length-is (start .args .k))) (start .pre .2) (head .put-head .ensures)
+    (omega (arith, checkpoint-whole f (start .args .k))) (start .pre .2) (rw kind at (head .put-head .ensures))
     (m .put-word .ensures) (key .put-key .ensures) (last .put-print .ensures) (now .put-mark .ensures) (stages .put-stages .ensures)
 
 pub put-checkpoint-spec : {M : Type 1} → statement M
@@ -69,6 +76,7 @@ put-checkpoint-spec =
     checkpoint-size-requires
     sub-put-head
     cast-put-head
+    kind-requires
     put-head-requires
     put-word-requires
     put-key-requires

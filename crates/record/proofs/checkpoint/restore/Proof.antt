@@ -10,10 +10,19 @@ use Rattle.refusal.specs.Number.{refusalNumber, number}
 use Rattle.ladder.proofs.Levels.{levels-bound}
 use Rattle.signature.proofs.Card.{sound-card}
 use Rattle.signature.specs.Signature.{signatureFits}
+use Rattle.record.specs.declared.Format.{Format}
 use Rattle.record.specs.Layout.{lengthField, checkpointLength, samePattern}
-use Rattle.record.specs.Calls.{checkpointSuits}
+use Rattle.record.specs.Calls.{formatOf, checkpointSuits}
 use Rattle.record.proofs.Reading.{refusal-given}
-use Rattle.record.proofs.Restoring.{card-misfits, restore-nothing, unrestored-at, other-pattern, not-suited, restore-whole}
+use Rattle.record.proofs.Restoring.{
+  head-asked,
+  card-misfits,
+  restore-nothing,
+  unrestored-at,
+  other-pattern,
+  not-suited,
+  restore-whole,
+}
 use borrow.Author.Needs.{needs}
 use Rattle.record.proofs.checkpoint.restore.Statement.{statement}
 use Rattle.record.proofs.checkpoint.restore.Tie as tie
@@ -32,6 +41,15 @@ returns c =
     restore-nothing (a .signature) (a .buf .now) _ _ _ (rw (u .0) (refusal-given Misfit))
     (u .0 ∙ card-misfits (a .signature) (a .buf .now) fails) (u .1) (u .2)
 
+format-at-requires : tie.Need-format-at-requires
+format-at-requires c κs = search needs
+
+kind-requires : tie.Need-kind-requires
+kind-requires c κs = search needs
+
+least-requires : tie.Need-least-requires
+least-requires c κs = search needs
+
 check-head-requires : tie.Need-check-head-requires
 check-head-requires c κs = search needs
 
@@ -43,13 +61,16 @@ not-restored-requires-2 c κs = search needs
 
 returns-2 : tie.Need-returns-2
 returns-2 c =
-    let e = c .before .before .before .before .before in
+    let asked = c .before .before .before .before in
+    let e = asked .before .before .before .before in
     let a = e .before .before .before .args in
     let card = a .signature in
     let s = a .buf .now in
     let fits : signatureFits card ≡ true = sym (e .before .fits2 .ensures) ∙ not-false _ (e .if1 .left) in
     let refusal = c .before .before .head .given .0 .0 in
-    let head = ap number (sym (c .before .before .head .given .1)) ∙ c .before .before .before .before .check-head .ensures in
+    let told = ap number (sym (c .before .before .head .given .1)) ∙ asked .check-head .ensures in
+    let format = asked .before .before .before .format-at .ensures in
+    let head = head-asked s format (asked .before .before .kind .ensures) (asked .before .least .ensures) told in
     let u = c .not-restored2 .ensures in
     restore-nothing card s _ _ _ (rw (u .0) (refusal-given refusal))
     (u .0 ∙ unrestored-at card s fits (refusalNumber refusal) head (refusal-given refusal)) (u .1) (u .2)
@@ -59,7 +80,7 @@ enum-told c = search needs
 
 same-pattern-requires : tie.Need-same-pattern-requires
 same-pattern-requires c κs =
-    let e = c .before .before .before in
+    let e = c .before .before .before .before .before .before in
     let a = e .before .before .before .args in
     let card = a .signature in
     let s = a .buf .now in
@@ -72,14 +93,19 @@ not-restored-requires-3 c κs = search needs
 returns-3 : tie.Need-returns-3
 returns-3 c =
     let told = c .before .before .before in
-    let e = told .before .before .before in
+    let asked = told .before .before in
+    let e = asked .before .before .before .before in
+    let format = asked .before .before .before .format-at .ensures in
     let a = e .before .before .before .args in
     let card = a .signature in
     let s = a .buf .now in
     let fits : signatureFits card ≡ true = sym (e .before .fits2 .ensures) ∙ not-false _ (e .if1 .left) in
-    let head = ap number (sym (told .enum-told .given .1)) ∙ told .before .before .check-head .ensures in
+    let answer = ap number (sym (told .enum-told .given .1)) ∙ asked .check-head .ensures in
+    let head = head-asked s format (asked .before .before .kind .ensures) (asked .before .least .ensures) answer in
     let u = c .not-restored3 .ensures in
-    let differs : samePattern card s ≡ false = sym (c .before .before .same-pattern .ensures) ∙ not-true _ (c .before .if2 .taken) in
+    let differs : samePattern (formatOf s) card s ≡ false =
+    sym (c .before .before .same-pattern .ensures (formatOf s)) ∙ not-true _ (c .before .if2 .taken)
+    in
     restore-nothing card s _ _ _ (rw (u .0) (refusal-given OtherPassage)) (u .0 ∙ other-pattern card s fits head differs) (u .1) (u .2)
 
 word-at-requires : tie.Need-word-at-requires
@@ -104,17 +130,24 @@ returns-4 : tie.Need-returns-4
 returns-4 c =
     let k = c .before .before in
     let told = k .before .before .before .before .before in
-    let e = told .before .before .before in
+    let asked = told .before .before in
+    let e = asked .before .before .before .before in
+    let format = asked .before .before .before .format-at .ensures in
     let a = e .before .before .before .args in
     let card = a .signature in
     let s = a .buf .now in
     let fits : signatureFits card ≡ true = sym (e .before .fits2 .ensures) ∙ not-false _ (e .if1 .left) in
-    let head = ap number (sym (told .enum-told .given .1)) ∙ told .before .before .check-head .ensures in
-    let asked = k .before .before .before in
-    let same : samePattern card s ≡ true = sym (asked .before .same-pattern .ensures) ∙ not-false _ (asked .if2 .left) in
+    let answer = ap number (sym (told .enum-told .given .1)) ∙ asked .check-head .ensures in
+    let head = head-asked s format (asked .before .before .kind .ensures) (asked .before .least .ensures) answer in
+    let tested = k .before .before .before in
+    let same : samePattern (formatOf s) card s ≡ true =
+    sym (tested .before .same-pattern .ensures (formatOf s)) ∙ not-false _ (tested .if2 .left)
+    in
     let length = k .before .before .word-at .ensures in
-    let due : k .checkpoint-size .result ≡ checkpointLength (levels (card .length)) + 4 =
-    k .checkpoint-size .ensures ∙ ap (λ (k : ℕ). checkpointLength k + 4) (k .before .levels .ensures)
+    let due : k .checkpoint-size .result ≡ checkpointLength (formatOf s) (levels (card .length)) + 4 =
+    k .checkpoint-size .ensures
+    ∙ ap (λ (f : Format). checkpointLength f (k .before .levels .result) + 4) format
+    ∙ ap (λ (n : ℕ). checkpointLength (formatOf s) n + 4) (k .before .levels .ensures)
     in
     let u = c .not-restored4 .ensures in
     let fails : checkpointSuits card s ≡ false =
@@ -135,20 +168,29 @@ returns-5 : tie.Need-returns-5
 returns-5 c =
     let k = c .before .before .before .before .before in
     let told = k .before .before .before .before .before in
-    let e = told .before .before .before in
+    let asked = told .before .before in
+    let e = asked .before .before .before .before in
+    let format = asked .before .before .before .format-at .ensures in
     let a = e .before .before .before .args in
     let card = a .signature in
     let s = a .buf .now in
     let fits : signatureFits card ≡ true = sym (e .before .fits2 .ensures) ∙ not-false _ (e .if1 .left) in
-    let head = ap number (sym (told .enum-told .given .1)) ∙ told .before .before .check-head .ensures in
-    let asked = k .before .before .before in
-    let same : samePattern card s ≡ true = sym (asked .before .same-pattern .ensures) ∙ not-false _ (asked .if2 .left) in
-    let length = k .before .before .word-at .ensures in
-    let due : k .checkpoint-size .result ≡ checkpointLength (levels (card .length)) + 4 =
-    k .checkpoint-size .ensures ∙ ap (λ (k : ℕ). checkpointLength k + 4) (k .before .levels .ensures)
+    let answer = ap number (sym (told .enum-told .given .1)) ∙ asked .check-head .ensures in
+    let head = head-asked s format (asked .before .before .kind .ensures) (asked .before .least .ensures) answer in
+    let tested = k .before .before .before in
+    let same : samePattern (formatOf s) card s ≡ true =
+    sym (tested .before .same-pattern .ensures (formatOf s)) ∙ not-false _ (tested .if2 .left)
     in
-    let made = c .before .before .before .matcher-at .ensures in
-    let suited : lengthField s ≡ checkpointLength (levels (card .length)) = omega arith in
+    let length = k .before .before .word-at .ensures in
+    let due : k .checkpoint-size .result ≡ checkpointLength (formatOf s) (levels (card .length)) + 4 =
+    k .checkpoint-size .ensures
+    ∙ ap (λ (f : Format). checkpointLength f (k .before .levels .result) + 4) format
+    ∙ ap (λ (n : ℕ). checkpointLength (formatOf s) n + 4) (k .before .levels .ensures)
+    in
+    let made = rw format at (c .before .before .before .matcher-at .ensures) in
+    let suited : lengthField s ≡ checkpointLength (formatOf s) (levels (card .length)) =
+    omega (arith, c .before .before .before .before .if3 .left)
+    in
     let u = c .not-restored5 .ensures in
     let fails : checkpointSuits card s ≡ false =
     rw (eq-eqb (lengthField s) _ suited, ← made, ← c .before .before .fits3 .ensures) (not-true _ (c .before .if4 .taken))
@@ -159,20 +201,27 @@ returns-6 : tie.Need-returns-6
 returns-6 c =
     let k = c .before .before .before .before in
     let told = k .before .before .before .before .before in
-    let e = told .before .before .before in
+    let asked = told .before .before in
+    let e = asked .before .before .before .before in
+    let format = asked .before .before .before .format-at .ensures in
     let a = e .before .before .before .args in
     let card = a .signature in
     let s = a .buf .now in
     let fits : signatureFits card ≡ true = sym (e .before .fits2 .ensures) ∙ not-false _ (e .if1 .left) in
-    let head = ap number (sym (told .enum-told .given .1)) ∙ told .before .before .check-head .ensures in
-    let asked = k .before .before .before in
-    let same : samePattern card s ≡ true = sym (asked .before .same-pattern .ensures) ∙ not-false _ (asked .if2 .left) in
-    let length = k .before .before .word-at .ensures in
-    let due : k .checkpoint-size .result ≡ checkpointLength (levels (card .length)) + 4 =
-    k .checkpoint-size .ensures ∙ ap (λ (k : ℕ). checkpointLength k + 4) (k .before .levels .ensures)
+    let answer = ap number (sym (told .enum-told .given .1)) ∙ asked .check-head .ensures in
+    let head = head-asked s format (asked .before .before .kind .ensures) (asked .before .least .ensures) answer in
+    let tested = k .before .before .before in
+    let same : samePattern (formatOf s) card s ≡ true =
+    sym (tested .before .same-pattern .ensures (formatOf s)) ∙ not-false _ (tested .if2 .left)
     in
-    let made = c .before .before .matcher-at .ensures in
-    let suited : lengthField s ≡ checkpointLength (levels (card .length)) = omega arith in
+    let length = k .before .before .word-at .ensures in
+    let due : k .checkpoint-size .result ≡ checkpointLength (formatOf s) (levels (card .length)) + 4 =
+    k .checkpoint-size .ensures
+    ∙ ap (λ (f : Format). checkpointLength f (k .before .levels .result) + 4) format
+    ∙ ap (λ (n : ℕ). checkpointLength (formatOf s) n + 4) (k .before .levels .ensures)
+    in
+    let made = rw format at (c .before .before .matcher-at .ensures) in
+    let suited : lengthField s ≡ checkpointLength (formatOf s) (levels (card .length)) = omega arith in
     let passes : checkpointSuits card s ≡ true =
     rw (eq-eqb (lengthField s) _ suited, ← made, ← c .before .fits3 .ensures) (not-false _ (c .if4 .left))
     in
@@ -185,6 +234,9 @@ restore-spec =
     fits-requires
     not-restored-requires
     returns
+    format-at-requires
+    kind-requires
+    least-requires
     check-head-requires
     enum-known-head
     not-restored-requires-2

@@ -16,11 +16,11 @@ word-at-requires : tie.Need-word-at-requires
 word-at-requires c κs = search needs
 
 returns : tie.Need-returns
-returns c =
+returns c f =
     let a = c .before .before .before .args in
     let s = a .buf .now in
     rw (
-      pattern-tests (a .t2) s,
+      pattern-tests f (a .t2) s,
       ne-eqb (patternLength s) (a .t2 .length) (λ e. c .if1 .taken (c .before .word-at .ensures ∙ e)),
     )
 
@@ -31,7 +31,7 @@ equals-requires : tie.Need-equals-requires
 equals-requires c κs = search needs
 
 returns-2 : tie.Need-returns-2
-returns-2 c =
+returns-2 c f =
     let e = c .before .before .before .before in
     let a = e .before .before .before .args in
     let key : sameKey (keyOf (valuesAt (a .buf .now) keyPlace (widths (keyFields noKey)))) (a .t2 .key) ≡ false =
@@ -40,7 +40,7 @@ returns-2 c =
     ∙ not-true _ (c .if2 .taken)
     in
     let m = eq-eqb (patternLength (a .buf .now)) (a .t2 .length) (sym (e .before .word-at .ensures) ∙ e .if1 .left) in
-    rw (pattern-tests (a .t2) (a .buf .now), m, key)
+    rw (pattern-tests f (a .t2) (a .buf .now), m, key)
 
 levels-requires : tie.Need-levels-requires
 levels-requires c κs = search needs
@@ -61,7 +61,7 @@ equals-requires-2 : tie.Need-equals-requires-2
 equals-requires-2 c κs = search needs
 
 returns-3 : tie.Need-returns-3
-returns-3 c =
+returns-3 c f =
     let k = c .before .before .before .before in
     let e = k .before .before .before .before in
     let a = e .before .before .before .args in
@@ -71,7 +71,7 @@ returns-3 c =
     ∙ not-false _ (k .if2 .left)
     in
     let m = eq-eqb (patternLength (a .buf .now)) (a .t2 .length) (sym (e .before .word-at .ensures) ∙ e .if1 .left) in
-    rw (pattern-tests (a .t2) (a .buf .now), m, key)
+    rw (pattern-tests f (a .t2) (a .buf .now), m, key)
     (c .equals2 .ensures ∙ rw (c .before .print-at .ensures, c .before .before .before .levels .ensures))
 
 pub same-pattern-spec : {M : Type 1} → statement M

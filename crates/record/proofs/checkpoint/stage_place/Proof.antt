@@ -1,7 +1,10 @@
 -- `record::checkpoint::stage_place` meets its contract.
+use Prim.Native.Nat.{ℕ, _*_}
 use mathlib.Core.Path.{sym, _∙_, ap}
+use native.Mathlib.Omega.{arith}
 use borrow.Author.Tests.{lt-ltb, le-ltb}
 use Rattle.record.specs.Layout.{stageFrom}
+use Rattle.record.proofs.Sizes.{stage-reach}
 use Rattle.record.proofs.Positions.{stage-place}
 use borrow.Author.Needs.{needs}
 use Rattle.record.proofs.checkpoint.stage_place.Statement.{statement}
@@ -13,22 +16,51 @@ none-requires c κs = search needs
 returns : tie.Need-returns
 returns c = rw (le-ltb _ _ (c .before .if1 .taken)) (c .none .ensures)
 
+stages-at-requires : tie.Need-stages-at-requires
+stages-at-requires c κs = search needs
+
+stage-size-requires : tie.Need-stage-size-requires
+stage-size-requires c κs = search needs
+
 mul-stage-at : tie.Need-mul-stage-at
-mul-stage-at c = search needs
+mul-stage-at c =
+    let e = c .before .before in
+    let a = e .before .before .args in
+    let place = ap (λ (n : ℕ). n * a .i) (c .stage-size .ensures) in
+    omega (arith, stage-reach (a .format) (a .i) (e .before .before .pre))
 
 add-stage-at : tie.Need-add-stage-at
-add-stage-at c = search needs
+add-stage-at c =
+    let e = c .before .before in
+    let a = e .before .before .args in
+    let place = ap (λ (n : ℕ). n * a .i) (c .stage-size .ensures) in
+    omega (arith, stage-reach (a .format) (a .i) (e .before .before .pre))
 
 stage-at-requires : tie.Need-stage-at-requires
-stage-at-requires c κs = search needs
+stage-at-requires c κs =
+    let e = c .before .before in
+    let a = e .before .before .args in
+    let place = ap (λ (n : ℕ). n * a .i) (c .stage-size .ensures) in
+    omega (arith, stage-reach (a .format) (a .i) (e .before .before .pre))
 
 returns-2 : tie.Need-returns-2
 returns-2 c =
-    let a = c .before .before .before .args in
-    let place = stage-place (a .buf .now) (a .k) (a .i) (c .before .if1 .left) in
-    rw (lt-ltb _ _ (c .before .if1 .left)) (c .stage-at .ensures ∙ ap stageFrom (sym place))
+    let size = c .before in
+    let e = size .before .before in
+    let a = e .before .before .args in
+    let place = stage-place (a .format) (a .buf .now) (a .k) (a .i) (e .if1 .left) in
+    rw (lt-ltb _ _ (e .if1 .left))
+    (rw (size .before .stages-at .ensures, size .stage-size .ensures) at (c .stage-at .ensures) ∙ ap stageFrom (sym place))
 
 pub stage-place-spec : {M : Type 1} → statement M
 stage-place-spec =
     tie.close
-    (tie.spec none-requires returns mul-stage-at add-stage-at stage-at-requires returns-2)
+    (tie.spec
+    none-requires
+    returns
+    stages-at-requires
+    stage-size-requires
+    mul-stage-at
+    add-stage-at
+    stage-at-requires
+    returns-2)

@@ -13,11 +13,13 @@ use Rattle.record.proofs.checkpoint.stages_at.Statement.{statement}
 use Rattle.record.proofs.checkpoint.stages_at.Tie as tie
 
 abbrev Inv-loop : tie.InvT-loop
-Inv-loop buf k stages₀ i₀ stages i =
-    (i ≤ stageCount) × (length stages ≡ stageCount) × (take i stages ≡ tabulate (stagePlace (valuesAt buf 0 (checkpointWidths k)) k) i)
+Inv-loop buf format k stages₀ i₀ stages i =
+    (i ≤ stageCount)
+    × (length stages ≡ stageCount)
+    × (take i stages ≡ tabulate (stagePlace (valuesAt buf 0 (checkpointWidths format k)) k) i)
 
 abbrev μ-loop : tie.MeasureT-loop
-μ-loop buf k stages₀ i₀ stages i = stageCount - i
+μ-loop buf format k stages₀ i₀ stages i = stageCount - i
 
 none-requires : tie.Need-none-requires Inv-loop μ-loop
 none-requires c κs = search needs
@@ -44,7 +46,7 @@ loop-again : tie.Need-loop-again Inv-loop μ-loop
 loop-again c =
     let l = c .before .before in
     let a = l .before .before .before .args in
-    let values = valuesAt (a .buf .now) 0 (checkpointWidths (a .k)) in (
+    let values = valuesAt (a .buf .now) 0 (checkpointWidths (a .format) (a .k)) in (
       omega arith,
       length-set (l .loop .stages) (l .loop .i) (c .stage-place .result) ∙ l .loop .inv .1,
       rw (c .stage-place .ensures)
@@ -56,7 +58,7 @@ returns c =
     let l = c .before in
     let end : l .loop .i ≡ stageCount = omega arith in
     let a = l .before .before .before .args in
-    let values = valuesAt (a .buf .now) 0 (checkpointWidths (a .k)) in
+    let values = valuesAt (a .buf .now) 0 (checkpointWidths (a .format) (a .k)) in
     fill-all (stagePlace values (a .k)) _ stageCount (l .loop .inv .1) (rw end at (l .loop .inv .2))
 
 pub stages-at-spec : {M : Type 1} → statement M

@@ -10,7 +10,7 @@ abbrev Inv-loop : tie.InvT-loop
 Inv-loop from tally₀ i₀ tally i = length tally ≡ length tally₀
 
 abbrev μ-loop : tie.MeasureT-loop
-μ-loop from tally₀ i₀ tally i = 13 - i
+μ-loop from tally₀ i₀ tally i = 20 - i
 
 pub gather-spec : {M : Type 1} → statement M
 gather-spec =

@@ -8,7 +8,7 @@ abbrev Inv-loop : tie.InvT-loop
 Inv-loop tally i₀ i = Unit {0}
 
 abbrev μ-loop : tie.MeasureT-loop
-μ-loop tally i₀ i = 12 - i
+μ-loop tally i₀ i = 19 - i
 
 pub say-refusals-spec : {M : Type 1} → statement M
 say-refusals-spec =

@@ -7,10 +7,10 @@ use Rattle.refusal_trials.proofs.records.watches.Statement.{statement}
 use Rattle.refusal_trials.proofs.records.watches.Tie as tie
 
 abbrev Inv-loop : tie.InvT-loop
-Inv-loop rows tally₀ i₀ tally i = length tally ≡ length tally₀
+Inv-loop narrow rows tally₀ i₀ tally i = length tally ≡ length tally₀
 
 abbrev μ-loop : tie.MeasureT-loop
-μ-loop rows tally₀ i₀ tally i = length rows - i
+μ-loop narrow rows tally₀ i₀ tally i = length rows - i
 
 pub watches-spec : {M : Type 1} → statement M
 watches-spec =

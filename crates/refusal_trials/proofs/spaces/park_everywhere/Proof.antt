@@ -7,10 +7,10 @@ use Rattle.refusal_trials.proofs.spaces.park_everywhere.Statement.{stat
 use Rattle.refusal_trials.proofs.spaces.park_everywhere.Tie as tie
 
 abbrev Inv-loop : tie.InvT-loop
-Inv-loop w size used seen₀ end n₀ seen n = length seen ≡ length seen₀
+Inv-loop w narrow size used seen₀ end n₀ seen n = length seen ≡ length seen₀
 
 abbrev μ-loop : tie.MeasureT-loop
-μ-loop w size used seen₀ end n₀ seen n = end - n
+μ-loop w narrow size used seen₀ end n₀ seen n = end - n
 
 pub park-everywhere-spec : {M : Type 1} → statement M
 park-everywhere-spec =

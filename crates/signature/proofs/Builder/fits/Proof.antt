@@ -58,6 +58,9 @@ returns-4 c =
       not-true (c .before .fits3 .result) (c .if4 .taken),
     )
 
+cast-running-fits : tie.Need-cast-running-fits
+cast-running-fits c = search needs
+
 running-fits-requires : tie.Need-running-fits-requires
 running-fits-requires c κs = search needs
 
@@ -120,6 +123,7 @@ fits-spec =
     returns-3
     fits-requires-2
     returns-4
+    cast-running-fits
     running-fits-requires
     returns-5
     prints-fit-requires

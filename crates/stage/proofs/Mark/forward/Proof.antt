@@ -3,8 +3,11 @@ use borrow.Author.Needs.{needs}
 use Rattle.stage.proofs.Mark.forward.Statement.{statement}
 use Rattle.stage.proofs.Mark.forward.Tie as tie
 
-add-t6 : tie.Need-add-t6
-add-t6 c = search needs
+cast-t6 : tie.Need-cast-t6
+cast-t6 c = search needs
+
+add-t7 : tie.Need-add-t7
+add-t7 c = search needs
 
 cast-join : tie.Need-cast-join
 cast-join c = search needs
@@ -16,4 +19,4 @@ returns : tie.Need-returns
 returns c = rw (c .join .ensures)
 
 pub forward-spec : {M : Type 1} → statement M
-forward-spec = tie.close (tie.spec add-t6 cast-join join-requires returns)
+forward-spec = tie.close (tie.spec cast-t6 add-t7 cast-join join-requires returns)

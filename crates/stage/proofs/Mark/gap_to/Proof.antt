@@ -6,8 +6,8 @@ use Rattle.stage.proofs.Mark.gap_to.Tie as tie
 distance-requires : tie.Need-distance-requires
 distance-requires c κs = search needs
 
-cast-cut : tie.Need-cast-cut
-cast-cut c = search needs
+cast-t6 : tie.Need-cast-t6
+cast-t6 c = search needs
 
 cut-requires : tie.Need-cut-requires
 cut-requires c κs = search needs
@@ -16,4 +16,4 @@ returns : tie.Need-returns
 returns c = rw (c .cut .ensures, c .before .before .distance .ensures)
 
 pub gap-to-spec : {M : Type 1} → statement M
-gap-to-spec = tie.close (tie.spec distance-requires cast-cut cut-requires returns)
+gap-to-spec = tie.close (tie.spec distance-requires cast-t6 cut-requires returns)

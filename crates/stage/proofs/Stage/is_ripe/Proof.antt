@@ -14,6 +14,9 @@ returns c = search (eq-eqb, arith)
 prefix-length-requires : tie.Need-prefix-length-requires
 prefix-length-requires c κs = search needs
 
+cast-length : tie.Need-cast-length
+cast-length c = search needs
+
 returns-2 : tie.Need-returns-2
 returns-2 c =
     let a = c .before .before .before .before .args in
@@ -30,4 +33,4 @@ returns-3 c =
     (equal-sum (a .t) (s .first .at) (known .result) (omega arith))
 
 pub is-ripe-spec : {M : Type 1} → statement M
-is-ripe-spec = tie.close (tie.spec returns prefix-length-requires returns-2 returns-3)
+is-ripe-spec = tie.close (tie.spec returns prefix-length-requires cast-length returns-2 returns-3)

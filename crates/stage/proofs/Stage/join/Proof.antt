@@ -10,7 +10,7 @@ use Rattle.stage.proofs.Stage.join.Tie as tie
 returns : tie.Need-returns
 returns c =
     let a = c .before .before .before .args in
-    λ key e. rw e (sym (enter-second key (a .self) (a .new) (c .if1 .taken)))
+    λ key e. rw e (sym (enter-second key (a .self) (a .new) (c .if1 .taken) (omega arith)))
 
 equals-requires : tie.Need-equals-requires
 equals-requires c κs = search needs
@@ -22,7 +22,7 @@ returns-2 : tie.Need-returns-2
 returns-2 c =
     let a = c .before .before .before .before .before .before .before .before .before .args in
     let longer = sym (c .before .before .before .before .equals .ensures) ∙ c .before .before .before .if2 .taken in
-    λ key e. rw add-one (sym (enter-longer key (a .self) (a .new) (omega arith) (omega arith) (rw e at longer)))
+    λ key e. rw add-one (sym (enter-longer key (a .self) (a .new) (omega arith) (omega arith) (omega arith) (rw e at longer)))
 
 sub-t15 : tie.Need-sub-t15
 sub-t15 c = search needs
@@ -30,7 +30,7 @@ sub-t15 c = search needs
 returns-3 : tie.Need-returns-3
 returns-3 c =
     let a = c .before .before .before .before .before .before .before .args in
-    λ key e. rw e (sym (enter-aside key (a .self) (a .new) (omega arith) (omega arith) (rw e at (sym (c .before .before .equals .ensures) ∙ c .before .if2 .left))))
+    λ key e. rw e (sym (enter-aside key (a .self) (a .new) (omega arith) (omega arith) (omega arith) (rw e at (sym (c .before .before .equals .ensures) ∙ c .before .if2 .left))))
 
 pub join-spec : {M : Type 1} → statement M
 join-spec = tie.close (tie.spec returns equals-requires add-t10 returns-2 sub-t15 returns-3)

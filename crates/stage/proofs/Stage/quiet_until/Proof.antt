@@ -11,6 +11,9 @@ returns c = rw (eq-eqb _ 0 (c .if1 .taken))
 prefix-length-requires : tie.Need-prefix-length-requires
 prefix-length-requires c κs = search needs
 
+cast-length : tie.Need-cast-length
+cast-length c = search needs
+
 returns-2 : tie.Need-returns-2
 returns-2 c = rw (ne-eqb _ 0 (c .before .before .if1 .left)) (omega (arith, c .before .prefix-length .ensures))
 
@@ -30,4 +33,4 @@ returns-4 c =
 
 pub quiet-until-spec : {M : Type 1} → statement M
 quiet-until-spec =
-    tie.close (tie.spec returns prefix-length-requires returns-2 returns-3 add-distance distance-requires returns-4)
+    tie.close (tie.spec returns prefix-length-requires cast-length returns-2 returns-3 add-distance distance-requires returns-4)

@@ -14,16 +14,24 @@ returns c =
     let a = c .before .before .before .args in
     c .none .ensures ∙ sym (off-few (a .key) (a .self) (c .before .if1 .taken))
 
-sub-if2 : tie.Need-sub-if2
-sub-if2 c = search needs
-
 none-requires-2 : tie.Need-none-requires-2
 none-requires-2 c κs = search needs
 
 returns-2 : tie.Need-returns-2
 returns-2 c =
-    let a = c .before .before .before .before .before .before .before .args in
+    let a = c .before .before .before .before .before .before .args in
     c .none2 .ensures ∙ sym (off-past (a .key) (a .self) (λ e. omega arith) (omega arith))
+
+cast-if3 : tie.Need-cast-if3
+cast-if3 c = search needs
+
+none-requires-3 : tie.Need-none-requires-3
+none-requires-3 c κs = search needs
+
+returns-3 : tie.Need-returns-3
+returns-3 c =
+    let a = c .before .before .before .before .before .before .before .before .before .args in
+    c .none3 .ensures ∙ sym (off-past (a .key) (a .self) (λ e. omega arith) (omega arith))
 
 forward-requires : tie.Need-forward-requires
 forward-requires c κs = search needs
@@ -31,18 +39,18 @@ forward-requires c κs = search needs
 alone-requires : tie.Need-alone-requires
 alone-requires c κs = search needs
 
-returns-3 : tie.Need-returns-3
-returns-3 c =
-    let a = c .before .before .before .before .before .before .before .before .before .before .args in
-    rw (c .before .before .before .forward .ensures) at (c .alone .ensures)
-    ∙ sym (off-two (a .key) (a .self) (omega arith) (c .before .if3 .taken))
-
-sub-t7 : tie.Need-sub-t7
-sub-t7 c = search needs
-
 returns-4 : tie.Need-returns-4
 returns-4 c =
-    let a = c .before .before .before .before .before .before .before .before .before .before .before .args in
+    let a = c .before .before .before .before .before .before .before .before .before .before .before .before .args in
+    rw (c .before .before .before .forward .ensures) at (c .alone .ensures)
+    ∙ sym (off-two (a .key) (a .self) (omega arith) (c .before .if4 .taken))
+
+sub-t9 : tie.Need-sub-t9
+sub-t9 c = search needs
+
+returns-5 : tie.Need-returns-5
+returns-5 c =
+    let a = c .before .before .before .before .before .before .before .before .before .before .before .before .before .args in
     rw (c .before .before .before .before .forward .ensures) (sym (off-more (a .key) (a .self) (omega arith) (omega arith)))
 
 pub take-off-spec : {M : Type 1} → statement M
@@ -51,11 +59,13 @@ take-off-spec =
     (tie.spec
     none-requires
     returns
-    sub-if2
     none-requires-2
     returns-2
+    cast-if3
+    none-requires-3
+    returns-3
     forward-requires
     alone-requires
-    returns-3
-    sub-t7
-    returns-4)
+    returns-4
+    sub-t9
+    returns-5)

@@ -7,10 +7,10 @@ use Rattle.trials.proofs.cuts.layout.put_stages.Statement.{statement}
 use Rattle.trials.proofs.cuts.layout.put_stages.Tie as tie
 
 abbrev Inv-loop : tie.InvT-loop
-Inv-loop buffer₀ at k stages i₀ buffer i = length buffer ≡ length buffer₀
+Inv-loop buffer₀ at k narrow stages i₀ buffer i = length buffer ≡ length buffer₀
 
 abbrev μ-loop : tie.MeasureT-loop
-μ-loop buffer₀ at k stages i₀ buffer i = 20 - i
+μ-loop buffer₀ at k narrow stages i₀ buffer i = 20 - i
 
 pub put-stages-spec : {M : Type 1} → statement M
 put-stages-spec =

@@ -1,0 +1,29 @@
+-- `refusal_trials::spaces::rows` is safe and ends.
+use borrow.Author.Needs.{needs}
+use Prim.Native.Nat.{_-_}
+use mathlib.Core.Path.{_≡_}
+use lib.ListN.{length}
+use Rattle.refusal_trials.proofs.spaces.rows.Statement.{statement}
+use Rattle.refusal_trials.proofs.spaces.rows.Tie as tie
+
+abbrev Inv-loop : tie.InvT-loop
+Inv-loop list narrow tally₀ i₀ tally i = length tally ≡ length tally₀
+
+abbrev μ-loop : tie.MeasureT-loop
+μ-loop list narrow tally₀ i₀ tally i = length list - i
+
+pub rows-spec : {M : Type 1} → statement M
+rows-spec =
+    tie.close
+    (tie.spec
+    Inv-loop
+    μ-loop
+    (λ c. search needs)
+    (λ c. search needs)
+    (λ c. search needs)
+    (λ c κs. search needs)
+    (λ c. search needs)
+    (λ c. search needs)
+    (λ c. search needs)
+    (λ c. search needs)
+    (λ c. search needs))

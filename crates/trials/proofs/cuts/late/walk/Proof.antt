@@ -1,0 +1,29 @@
+-- `trials::cuts::late::walk` is safe and ends.
+use borrow.Author.Needs.{needs}
+use Prim.Native.Nat.{_-_}
+use mathlib.Core.Path.{_≡_}
+use lib.ListN.{length}
+use Rattle.trials.proofs.cuts.late.walk.Statement.{statement}
+use Rattle.trials.proofs.cuts.late.walk.Tie as tie
+
+abbrev Inv-loop : tie.InvT-loop
+Inv-loop signature stream pattern key marks₀ tally₀ both₀ t₀ marks tally both t = (length marks ≡ length marks₀) × (length tally ≡ length tally₀)
+
+abbrev μ-loop : tie.MeasureT-loop
+μ-loop signature stream pattern key marks₀ tally₀ both₀ t₀ marks tally both t = length stream - t
+
+pub walk-spec : {M : Type 1} → statement M
+walk-spec =
+    tie.close
+    (tie.spec
+    Inv-loop
+    μ-loop
+    (λ c. search needs)
+    (λ c. search needs)
+    (λ c κs. search needs)
+    (λ c κs. search needs)
+    (λ c. search needs)
+    (λ c. search needs)
+    (λ c. search needs)
+    (λ c. search needs)
+    (λ c. search needs))
