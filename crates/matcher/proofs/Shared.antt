@@ -27,18 +27,18 @@ use Rattle.matcher.proofs.Quiet.{Calm, quiet-answer, quiet-after}
 -- What is handed back, where the key is the one that is shared.
 pub record Brings (key : Key) (since : ℕ) (w : Matcher) (byte : ℕ) (r : Turn) : Type 0 where
   pub verdict : number (r .verdict) ≡ sharedRefusal key since w
-  pub stages : r .stages ≡ sharedStages key since w byte
-  pub answer : r .answer ≡ sharedAnswer key since w byte
+  pub stages : r .walk .stages ≡ sharedStages key since w byte
+  pub answer : r .walk .answer ≡ sharedAnswer key since w byte
 
 -- The powers are those of one key at most.
 pub brought :
     (powers : Powers) (since : ℕ) (w : Matcher) (byte : ℕ) (r : Turn)
     → (powers ≡ powersOf (powers .key) → Brings (powers .key) since w byte r)
-    → (r .moved ≡ false → r .stages ≡ w .stages)
+    → (r .moved ≡ false → r .walk .stages ≡ w .stages)
     → ((key : Key) → powers ≡ powersOf key → number (r .verdict) ≡ sharedRefusal key since w)
-    × (((key : Key) → powers ≡ powersOf key → r .stages ≡ sharedStages key since w byte)
-    × (((key : Key) → powers ≡ powersOf key → r .answer ≡ sharedAnswer key since w byte)
-    × (r .moved ≡ false → r .stages ≡ w .stages)))
+    × (((key : Key) → powers ≡ powersOf key → r .walk .stages ≡ sharedStages key since w byte)
+    × (((key : Key) → powers ≡ powersOf key → r .walk .answer ≡ sharedAnswer key since w byte)
+    × (r .moved ≡ false → r .walk .stages ≡ w .stages)))
 brought powers since w byte r f still =
     let under : (key : Key) → powers ≡ powersOf key → Brings key since w byte r =
     λ key e. let own : powers .key ≡ key = ap (λ (p : Powers). p .key) e in rw own at (f (e ∙ ap powersOf (sym own)))
@@ -52,8 +52,8 @@ module _ (key : Key) (since : ℕ) (w : Matcher) where
       → eqb n 0 ≡ false
       → sharedRefusal key since w ≡ n
       → number (r .verdict) ≡ n
-      → r .stages ≡ w .stages
-      → r .answer ≡ noAnswer
+      → r .walk .stages ≡ w .stages
+      → r .walk .answer ≡ noAnswer
       → Brings key since w byte r
   unfolding sharedAnswer sharedStages
   brings-nothing n byte r some e v s a = record { verdict = v ∙ sym e; stages = rw (e, some) s; answer = rw (e, some) a }
@@ -62,8 +62,8 @@ module _ (key : Key) (since : ℕ) (w : Matcher) where
       (byte : ℕ) (r : Turn)
       → sharedFits key since w ≡ false
       → number (r .verdict) ≡ 10
-      → r .stages ≡ w .stages
-      → r .answer ≡ noAnswer
+      → r .walk .stages ≡ w .stages
+      → r .walk .answer ≡ noAnswer
       → Brings key since w byte r
   brings-misfit byte r f = brings-nothing 10 byte r refl (rw f)
 
@@ -82,8 +82,8 @@ module _ (key : Key) (since : ℕ) (w : Matcher) where
         (byte : ℕ) (r : Turn)
         → maxTaken ≤ w .now .at
         → number (r .verdict) ≡ 6
-        → r .stages ≡ w .stages
-        → r .answer ≡ noAnswer
+        → r .walk .stages ≡ w .stages
+        → r .walk .answer ≡ noAnswer
         → Brings key since w byte r
     brings-spent byte r l = brings-nothing 6 byte r refl (rw (fits, le-ltb (w .now .at) maxTaken l))
 
@@ -95,20 +95,20 @@ module _ (key : Key) (since : ℕ) (w : Matcher) where
       taken : strokeRefusal w ≡ 0
       taken = rw (shared-own, lt-ltb (w .now .at) maxTaken room)
 
-      brings-own : r .stages ≡ afterStroke w byte .stages → r .answer ≡ strokeAnswer w byte → Brings key since w byte r
+      brings-own : r .walk .stages ≡ afterStroke w byte .stages → r .walk .answer ≡ strokeAnswer w byte → Brings key since w byte r
       unfolding sharedAnswer sharedStages
       brings-own s a =
           record { verdict = accepted ∙ sym shared-taken; stages = rw shared-taken s; answer = rw shared-taken a }
 
-      pub brings-walk : r .stages ≡ walked w byte .stages → r .answer ≡ walked w byte .answer → Brings key since w byte r
+      pub brings-walk : r .walk .stages ≡ walked w byte .stages → r .walk .answer ≡ walked w byte .answer → Brings key since w byte r
       brings-walk s a =
           brings-own (s ∙ ap (λ (v : Matcher). v .stages) (sym (after-taken w byte taken))) (a ∙ sym (answer-taken w byte taken))
 
       pub brings-quiet :
           Calm w (suc (w .now .at))
           → isFirst (getD (w .signature .prints) 0 empty) byte ≡ false
-          → r .stages ≡ w .stages
-          → r .answer ≡ compared noAnswer
+          → r .walk .stages ≡ w .stages
+          → r .walk .answer ≡ compared noAnswer
           → Brings key since w byte r
       brings-quiet calm other s a =
           brings-own (s ∙ ap (λ (v : Matcher). v .stages) (sym (quiet-after w byte shared-own room calm other)))

@@ -82,15 +82,16 @@ pub struct Powers {
     squares: [Power; PLACES],
 }
 
-// What one byte brings to a watch that shares t and F_t with others: whether its stages were visited, the stages then, and the answer.
+// What one byte brings to a watch that shares t and F_t with others: whether its stages were visited, and what came of it: the stages then, and
+// the answer.
 pub struct Turn {
     pub verdict: Verdict,
     pub moved: bool,
-    pub stages: [Stage; STAGES],
-    pub answer: Answer,
+    pub walk: Walk,
 }
 
-// What is seen of a watch that shares t with others: whether it is no misfit, and, if so, a t up to which no start becomes ripe.
+// What is seen of a watch that shares t with others: whether it is no misfit, and, if so and if it was asked, a t up to which no start becomes
+// ripe.
 pub struct Judged {
     pub ok: bool,
     pub until: u64,
@@ -135,11 +136,11 @@ fn quiet_until(stages: [Stage; STAGES], m: u32) -> u64
     until
 }
 
-// Whether each stage of a watch over m bytes fits at t and lists no start below a count, and the same t, in one pass.
-fn judge(stages: [Stage; STAGES], m: u32, t: u64, since: u64) -> Judged
+// Whether each stage of a watch over m bytes fits at t and lists no start below a count, and the same t, if it is asked, in one pass.
+fn judge(stages: [Stage; STAGES], m: u32, t: u64, since: u64, asked: bool) -> Judged
     requires { ⌜ (1 ≤ m) × (m ≤ maxLength) ⌝ }
     ensures ok { λ r. ⌜ r .ok ≡ (stagesFit m t stages && allFrom since stages) ⌝ }
-    ensures until { λ r. ⌜ (r .ok ≡ true → Unripe (levels m) m (r .until) stages) ⌝ }
+    ensures until { λ r. ⌜ (r .ok ≡ true → asked ≡ true → Unripe (levels m) m (r .until) stages) ⌝ }
 {
     let mut until = MAX_TAKEN;
     let mut at: u32 = 0;
@@ -157,7 +158,9 @@ fn judge(stages: [Stage; STAGES], m: u32, t: u64, since: u64) -> Judged
                 until: 0,
             };
         }
-        until = stage.quiet_until(m, at + 1, until);
+        if asked {
+            until = stage.quiet_until(m, at + 1, until);
+        }
         at = at + 1;
     }
     Judged { ok: true, until }
@@ -398,36 +401,35 @@ fn skip(key: Key, first: Fingerprint, until: u64, start: Mark, input: &[u8], fro
 impl Turn {
     // The stages as they were, beside a refusal.
     fn refused(refusal: Refusal, stages: [Stage; STAGES]) -> Turn
-        ensures { λ r. ⌜ (r .verdict ≡ Refused refusal) × (r .stages ≡ stages) × (r .answer ≡ noAnswer) ⌝ }
+        ensures { λ r. ⌜ (r .verdict ≡ Refused refusal) × (r .walk .stages ≡ stages) × (r .walk .answer ≡ noAnswer) ⌝ }
     {
+        let answer = Answer::none();
         Turn {
             verdict: Verdict::Refused(refusal),
             moved: false,
-            stages,
-            answer: Answer::none(),
+            walk: Walk { stages, answer },
         }
     }
 
     // A byte at which no start is ripe, and which is not P_0: one comparison, and the stages stay.
     fn quiet(stages: [Stage; STAGES]) -> Turn
-        ensures { λ r. ⌜ (r .verdict ≡ Accepted) × (r .stages ≡ stages) × (r .answer ≡ compared noAnswer) ⌝ }
+        ensures { λ r. ⌜ (r .verdict ≡ Accepted) × (r .walk .stages ≡ stages) × (r .walk .answer ≡ compared noAnswer) ⌝ }
     {
         let mut answer = Answer::none();
         answer.comparisons = 1;
         Turn {
             verdict: Verdict::Accepted,
             moved: false,
-            stages,
-            answer,
+            walk: Walk { stages, answer },
         }
     }
 }
 
 impl Matcher {
-    // Whether a watch that shares the key and t, since a count, is no misfit, and the t up to which it is quiet.
-    fn shared_fits(self, key: Key, since: u64) -> Judged
+    // Whether a watch that shares the key and t, since a count, is no misfit, and the t up to which it is quiet, if that is asked.
+    fn shared_fits(self, key: Key, since: u64, asked: bool) -> Judged
         ensures ok { λ r. ⌜ r .ok ≡ sharedFits key since self ⌝ }
-        ensures until { λ r. ⌜ (r .ok ≡ true → Unripe (levels (self .signature .length)) (self .signature .length) (r .until) (self .stages)) ⌝ }
+        ensures until { λ r. ⌜ (r .ok ≡ true → asked ≡ true → Unripe (levels (self .signature .length)) (self .signature .length) (r .until) (self .stages)) ⌝ }
     {
         let signature = self.signature;
         let mark = self.now;
@@ -449,21 +451,23 @@ impl Matcher {
             return misfit;
         }
         let stages = self.stages;
-        judge(stages, signature.length, mark.at, since)
+        judge(stages, signature.length, mark.at, since, asked)
     }
 
     // Takes one byte of the stream, for a watch that shares key, t and F_t with others since a count. Refusals: 10 misfit, also for a card
     // with another key, a count above t and a start below it; 6 spent. What is said of powers holds of those of any key, so of all there are.
     pub fn stroke_shared(self, powers: Powers, since: u64, byte: u8) -> Turn
         ensures verdict { λ r. ⌜ ((key : Key) → powers ≡ powersOf key → number (r .verdict) ≡ sharedRefusal key since self) ⌝ }
-        ensures stages { λ r. ⌜ ((key : Key) → powers ≡ powersOf key → r .stages ≡ sharedStages key since self byte) ⌝ }
-        ensures answer { λ r. ⌜ ((key : Key) → powers ≡ powersOf key → r .answer ≡ sharedAnswer key since self byte) ⌝ }
-        ensures moved { λ r. ⌜ (r .moved ≡ false → r .stages ≡ self .stages) ⌝ }
+        ensures stages { λ r. ⌜ ((key : Key) → powers ≡ powersOf key → r .walk .stages ≡ sharedStages key since self byte) ⌝ }
+        ensures answer { λ r. ⌜ ((key : Key) → powers ≡ powersOf key → r .walk .answer ≡ sharedAnswer key since self byte) ⌝ }
+        ensures moved { λ r. ⌜ (r .moved ≡ false → r .walk .stages ≡ self .stages) ⌝ }
     {
         let signature = self.signature;
         let start = self.now;
         let before = self.stages;
-        let judged = self.shared_fits(powers.key, since);
+        let first = signature.prints[0];
+        let other = !first.equals(Fingerprint::of_byte(byte));
+        let judged = self.shared_fits(powers.key, since, other);
         if !judged.ok {
             return Turn::refused(Refusal::Misfit, before);
         }
@@ -471,21 +475,17 @@ impl Matcher {
             return Turn::refused(Refusal::Spent, before);
         }
         let now = next_mark(signature.key, start, byte);
-        let first = signature.prints[0];
-        if !first.equals(Fingerprint::of_byte(byte)) {
+        if other {
             if now.at <= judged.until {
                 return Turn::quiet(before);
             }
         }
         let shifts = powers.shifts(signature.length);
-        let w = climb(Round { signature, now }, shifts, start, before);
-        let stages = w.stages;
-        let answer = w.answer;
+        let walk = climb(Round { signature, now }, shifts, start, before);
         Turn {
             verdict: Verdict::Accepted,
             moved: true,
-            stages,
-            answer,
+            walk,
         }
     }
 }

@@ -2,6 +2,7 @@
 use borrow.Author.Needs.{needs}
 use Prim.Native.Nat.{ℕ, _-_, _≤_}
 use mathlib.Core.Path.{_≡_, sym, _∙_}
+use mathlib.Core.Logic.{inl, inr}
 use mathlib.Core.Bool.{Bool, true, false, true≢false, and-false}
 use native.Mathlib.Nat.{not-suc-le-zero}
 use native.Mathlib.Numerals.{add-one}
@@ -20,14 +21,17 @@ abbrev listedAt : ℕ → Stages → ℕ → Bool
 listedAt since stages i = listedFrom since (stageAt stages i)
 
 abbrev Inv-loop : tie.InvT-loop
-Inv-loop m t since stages until₀ at₀ until at =
-    (at ≤ stageCount) × (every (fitsAt m t stages) at ≡ true) × (every (listedAt since stages) at ≡ true) × Unripe at m until stages
+Inv-loop m t since asked stages until₀ at₀ until at =
+    (at ≤ stageCount)
+    × (every (fitsAt m t stages) at ≡ true)
+    × (every (listedAt since stages) at ≡ true)
+    × (asked ≡ true → Unripe at m until stages)
 
 abbrev μ-loop : tie.MeasureT-loop
-μ-loop m t since stages until₀ at₀ until at = stageCount - at
+μ-loop m t since asked stages until₀ at₀ until at = stageCount - at
 
 loop-holds : tie.Need-loop-holds Inv-loop μ-loop
-loop-holds c = (omega arith, every-none _, every-none _, λ j l. absurd (not-suc-le-zero l))
+loop-holds c = (omega arith, every-none _, every-none _, λ e j l. absurd (not-suc-le-zero l))
 
 cast-loop : tie.Need-cast-loop Inv-loop μ-loop
 cast-loop c = search needs
@@ -89,7 +93,10 @@ loop-again c =
       omega arith,
       every-more (fitsAt (args .m) (args .t) (args .t1)) (loop .at) (loop .inv .1) fit,
       every-more (listedAt (args .since) (args .t1)) (loop .at) (loop .inv .2) listed,
-      unripe-more (loop .at) (args .m) (args .t1) (pre .0) (rw add-one at (c .quiet-until .ensures)) (loop .inv .3),
+      elim (c .if3 .came) [
+        | inl q ↦ rw (q .2) (λ e. unripe-more (loop .at) (args .m) (args .t1) (pre .0) (rw add-one at (q .1 .ensures)) (loop .inv .3 e))
+        | inr q ↦ λ e. absurd (true≢false (sym e ∙ q .0 .left))
+      ],
     )
 
 returns-3 : tie.Need-returns-3 Inv-loop μ-loop
@@ -98,7 +105,7 @@ returns-3 c =
     let start = c .before .before in
     let end : loop .at ≡ stageCount = omega arith in (
       sym (and-both (rw end at (loop .inv .1)) (rw end at (loop .inv .2))),
-      λ e j l. loop .inv .3 j (omega (arith, levels-bound (start .args .m) (start .pre .1))),
+      λ e a j l. loop .inv .3 a j (omega (arith, levels-bound (start .args .m) (start .pre .1))),
     )
 
 pub judge-spec : {M : Type 1} → statement M

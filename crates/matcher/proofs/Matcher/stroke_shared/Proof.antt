@@ -16,7 +16,7 @@ use Rattle.matcher.proofs.Matcher.stroke_shared.Tie as tie
 -- the watch fits among those that share the key
 fit :
     (c : tie.Else1)
-    → let args = c .before .before .before .before .before .before .args in
+    → let args = c .before .before .before .before .before .before .before .before .before .args in
     sharedFits (args .powers .key) (args .since) (args .self) ≡ true
 fit c = sym (c .before .before .shared-fits .ensures .0) ∙ not-false _ (c .if1 .left)
 
@@ -28,7 +28,7 @@ refused-requires c κs = search needs
 
 returns : tie.Need-returns
 returns c =
-    let args = c .before .before .before .before .before .before .before .args in
+    let args = c .before .before .before .before .before .before .before .before .before .before .args in
     let shared-fits = c .before .before .before .shared-fits in
     let refused = c .refused .ensures in
     brought (args .powers) (args .since) (args .self) (args .byte) (c .refused .result)
@@ -43,7 +43,7 @@ refused-requires-2 c κs = search needs
 returns-2 : tie.Need-returns-2
 returns-2 c =
     let else1 = c .before .before .before in
-    let args = else1 .before .before .before .before .before .before .args in
+    let args = else1 .before .before .before .before .before .before .before .before .before .args in
     let refused = c .refused2 .ensures in
     brought (args .powers) (args .since) (args .self) (args .byte) (c .refused2 .result)
     (λ e. brings-spent _ _ _ (fit else1) _ _ (c .before .if2 .taken) (ap number (refused .0)) (refused .1) (refused .2))
@@ -66,44 +66,44 @@ quiet-requires c κs = search needs
 
 returns-3 : tie.Need-returns-3
 returns-3 c =
-    let else1 = c .before .before .before .before .before .before .before .before .before .before .before .before in
-    let args = else1 .before .before .before .before .before .before .args in
-    let next-mark = c .before .before .before .before .before .before .before .before .next-mark in
-    let of-byte = c .before .before .before .before .before .before .of-byte in
-    let equals = c .before .before .before .before .before .equals in
-    let if2 = c .before .before .before .before .before .before .before .before .before .before .if2 in
+    let else1 = c .before .before .before .before .before .before .before .before .before in
+    let args = else1 .before .before .before .before .before .before .before .before .before .args in
+    let next-mark = c .before .before .before .before .before .next-mark in
+    let of-byte = else1 .before .before .before .before .of-byte in
+    let equals = else1 .before .before .before .equals in
+    let if2 = c .before .before .before .before .before .before .before .if2 in
     let if3 = c .before .before .before .before .if3 in
     let shared-fits = else1 .before .before .shared-fits in
     let quiet = c .quiet .ensures in
     brought (args .powers) (args .since) (args .self) (args .byte) (c .quiet .result)
     (λ e. brings-quiet _ _ _ (fit else1) _ _ (if2 .left) (ap number (quiet .0))
-    (sooner (args .self) (rw (next-mark .ensures) at (c .before .if4 .taken)) (shared-fits .ensures .1 (not-false _ (else1 .if1 .left))))
+    (sooner (args .self) (rw (next-mark .ensures) at (c .before .if4 .taken)) (shared-fits .ensures .1 (not-false _ (else1 .if1 .left)) (if3 .taken)))
     (rw (of-byte .ensures) at (sym (equals .ensures) ∙ not-true _ (if3 .taken))) (quiet .1) (quiet .2))
     (λ e. quiet .1)
 
 shifts-requires : tie.Need-shifts-requires
 shifts-requires c κs =
-    let else1 = c .before .before .before .before .before .before .before .before in
-    card-of (sound (else1 .before .before .before .before .before .before .args .self) (shared-own _ _ _ (fit else1))) .short
+    let else1 = c .before .before .before .before .before in
+    card-of (sound (else1 .before .before .before .before .before .before .before .before .before .args .self) (shared-own _ _ _ (fit else1))) .short
 
 climb-requires : tie.Need-climb-requires
 climb-requires c κs =
-    let else1 = c .before .before .before .before .before .before .before .before .before in
-    let args = else1 .before .before .before .before .before .before .args in
+    let else1 = c .before .before .before .before .before .before in
+    let args = else1 .before .before .before .before .before .before .before .before .before .args in
     let q = sound (args .self) (shared-own _ _ _ (fit else1)) in
-    rw (c .before .before .before .before .before .next-mark .ensures) (card-of q .long, card-of q .short, refl, omega arith, stages-fit (args .self) q)
+    rw (c .before .before .next-mark .ensures) (card-of q .long, card-of q .short, refl, omega arith, stages-fit (args .self) q)
 
 returns-4 : tie.Need-returns-4
 returns-4 c =
-    let else1 = c .before .before .before .before .before .before .before .before .before .before .before .before in
-    let args = else1 .before .before .before .before .before .before .args in
-    let next-mark = c .before .before .before .before .before .before .before .before .next-mark in
-    let if2 = c .before .before .before .before .before .before .before .before .before .before .if2 in
-    let shifts = c .before .before .before .shifts in
-    let climb = c .before .before .climb in
+    let else1 = c .before .before .before .before .before .before .before in
+    let args = else1 .before .before .before .before .before .before .before .before .before .args in
+    let next-mark = c .before .before .before .next-mark in
+    let if2 = c .before .before .before .before .before .if2 in
+    let shifts = c .before .shifts in
+    let climb = c .climb in
     let own = shared-key (args .powers .key) (args .since) (args .self) (fit else1) in
     brought (args .powers) (args .since) (args .self) (args .byte)
-    (record { verdict = Accepted; moved = true; stages = climb .result .stages; answer = climb .result .answer })
+    (record { verdict = Accepted; moved = true; walk = climb .result })
     (λ e.
     let walk = rw (next-mark .ensures) at (climb .ensures (rw own (shifts .ensures _ e))) in
     brings-walk _ _ _ (fit else1) _ _ (if2 .left) refl (ap (λ w. w .stages) walk) (ap (λ w. w .answer) walk))
@@ -113,15 +113,15 @@ pub stroke-shared-spec : {M : Type 1} → statement M
 stroke-shared-spec =
     tie.close
     (tie.spec
+    element-copy-out-first
+    of-byte-requires
+    equals-requires
     shared-fits-requires
     refused-requires
     returns
     refused-requires-2
     returns-2
     next-mark-requires
-    element-copy-out-first
-    of-byte-requires
-    equals-requires
     quiet-requires
     returns-3
     shifts-requires
