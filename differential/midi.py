@@ -1,4 +1,4 @@
-"""Passages from Standard MIDI Files of format 0: document 02's A.2, sentence by sentence.
+"""Passages from Standard MIDI Files of format 0: document 02's A.2 and A.6, sentence by sentence.
 
 A file is taken apart by its grammar, as patterns of bytes. read() says what a call must
 answer: the number of the refusal, or 0, and the strokes.
@@ -115,23 +115,32 @@ def messages(track):
         yield running, [ord(byte) for byte in data.groups()]
 
 
-def strokes_of(track, low, high):
+def outside(key, velocity, low, high):
+    """Whether a Note On refuses the file: "velocity 0 gives no stroke" first, then "a key outside
+    the lowest and highest bell given refuses the file"."""
+    return velocity > 0 and not low <= key <= high
+
+
+def outside_before_a6(key, velocity, low, high):
+    """The same while the key's rule went first; for the comparison in midi_files alone."""
+    return not low <= key <= high
+
+
+def strokes_of(track, low, high, refuses):
     """The keys of the notes that sound."""
     for status, data in messages(track):
         if status >> 4 == 9:
             key, velocity = data
-            # "a key outside the lowest and highest bell given refuses the file, then
-            # velocity 0 gives no stroke"
-            if not low <= key <= high:
+            if refuses(key, velocity, low, high):
                 raise Refused(OUTSIDE)
             if velocity > 0:
                 yield key
 
 
-def read(file, low, high, room):
+def read(file, low, high, room, refuses=outside):
     """The number of the refusal, or 0, and the strokes."""
     try:
-        strokes = bytes(strokes_of(track_of(file), low, high))
+        strokes = bytes(strokes_of(track_of(file), low, high, refuses))
     except Refused as refused:
         return refused.args[0], b""
     # "and 7 only after the whole file reads well"

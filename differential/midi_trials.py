@@ -3,7 +3,7 @@
 
 What is tried is replayed: the cases, their names and the printed lines are written from
 the program (crates/midi_trials), the files from what the names say. What comes out is
-worked out by midi.py; beside each case stands the number that document 02's A.2 gives it.
+worked out by midi.py; beside each case stands the number that document 02's A.2 and A.6 give it.
 
     midi_trials.py > crates/midi_trials/stdout
 """
@@ -235,8 +235,8 @@ BELLS = [
     (0, "bells up to 255", of(note(127), END), 127, 255),
     (17, "bells from 128 on", of(note(127), END), 128, 255),
     (0, "velocity 0", of(NOTE, running(60, 0), END), 60, 60),
-    (17, "velocity 0 below", of(NOTE, running(59, 0), END), 60, 60),
-    (17, "velocity 0 above", of(NOTE, running(61, 0), END), 60, 60),
+    (0, "velocity 0 below", of(NOTE, running(59, 0), END), 60, 60),
+    (0, "velocity 0 above", of(NOTE, running(61, 0), END), 60, 60),
     (0, "velocity 0 alone", of(note(60, 0), END), 60, 60, 0),
     (0, "note off outside", of(NOTE, message(0x80, 61, 64), END), 60, 60),
     (0, "key pressure outside", of(NOTE, message(0xA0, 61, 64), END), 60, 60),
@@ -261,7 +261,37 @@ BELLS = [
     (15, "no track and no room", header(), 0, 127, 0),
 ]
 
-CASES = CHUNKS + LENGTHS + EVENTS + BELLS
+LIFT = note(65, 0)              # outside the bells 60 to 64
+
+LIFTED = [
+    (0, "lifted alone", of(LIFT, END), 60, 64),
+    (0, "lifted alone, 0 bytes", of(LIFT, END), 60, 64, 0),
+    (0, "lifted twice, at 0 and 127", of(note(0, 0), running(127, 0), END), 60, 64),
+    (0, "lifted, lowest above highest", of(note(60, 0), END), 61, 60),
+    (0, "lifted, then struck", of(LIFT, running(60, 64), END), 60, 64),
+    (0, "struck, lifted, struck", of(NOTE, running(65, 0), running(62, 1), END), 60, 64),
+    (0, "lifted on channel 16, then struck", of(NOTE, note(65, 0, channel=15), running(64, 64), END), 60, 64),
+    (0, "lifted, a meta event, struck", of(LIFT, meta(1), NOTE, END), 60, 64),
+    (16, "lifted, a meta event, no status", of(LIFT, meta(1), running(60, 64), END), 60, 64),
+    (17, "velocity 1 outside", of(note(65, 1), END), 60, 64),
+    (17, "lifted, then struck outside", of(LIFT, running(65, 64), END), 60, 64),
+    (17, "lifted, struck, struck outside", of(LIFT, *THREE, running(59, 64), END), 60, 64),
+    (17, "struck outside, then lifted", of(note(65), running(65, 0), END), 60, 64),
+    (16, "lifted, then broken", of(LIFT, message(0xF1)), 60, 64),
+    (16, "lifted, velocity 128", of(LIFT, running(65, 128), END), 60, 64),
+    (16, "lifted, cut", of(LIFT, running(65)), 60, 64),
+    (16, "lifted, broken, struck outside", of(LIFT, message(0xF1), note(65), END), 60, 64),
+    (17, "lifted, struck outside, broken", of(LIFT, running(65, 64), message(0xF1)), 60, 64),
+    (16, "lifted, without end", of(LIFT), 60, 64),
+    (16, "lifted, a byte behind the end", of(LIFT, END, b"\0"), 60, 64),
+    *[(7 * (room < 3), "lifted, 3 strokes into %d bytes" % room, of(LIFT, *THREE, END), 60, 64, room)
+      for room in (3, 2, 0)],
+    (7, "2 strokes, lifted, a third into 2 bytes", of(*THREE[:2], running(65, 0), THREE[2], END), 60, 64, 2),
+    (17, "lifted, room for 2 of 3, then outside", of(LIFT, *THREE, running(65, 64), END), 60, 64, 2),
+    (16, "lifted, room for 2 of 3, without end", of(LIFT, *THREE), 60, 64, 2),
+]
+
+CASES = CHUNKS + LENGTHS + EVENTS + BELLS + LIFTED
 
 # Two other chunks, the second one letter from a track; notes 60, 62 with velocity 0, 67.
 SMALL = (header() + chunk(b"XFIH", b"\x7F") + chunk(b"MTrK", b"")

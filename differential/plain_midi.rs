@@ -1,4 +1,4 @@
-//! The reader of document 02's A.2 as a plain program: `plain_midi LOW HIGH < FILE`
+//! The reader of document 02's A.2 and A.6 as a plain program: `plain_midi LOW HIGH < FILE`
 //! writes the strokes to standard output, or the number of a refusal to standard
 //! error. The baseline for speed. No library. Build: rustc -C opt-level=3 plain_midi.rs
 
@@ -117,12 +117,13 @@ fn strokes_of(bytes: &[u8], low: u8, high: u8) -> Result<Vec<u8>, u32> {
         }
         let second = track.data()?;
         if running & 0xF0 == 0x90 {
+            if second == 0 {
+                continue;
+            }
             if first < low || high < first {
                 return Err(OUTSIDE);
             }
-            if second > 0 {
-                strokes.push(first);
-            }
+            strokes.push(first);
         }
     }
 }

@@ -5,6 +5,7 @@ use mathlib.Core.List.{List}
 use lib.ListN.{length, take}
 use Rattle.refusal.specs.Number.{number}
 use Rattle.midi_file.specs.declared.Bells.{Bells}
+use Rattle.midi_file.specs.Strokes.{noteOn}
 use Rattle.midi_file.specs.Calls.{fileStrokes, readRefusal}
 use Rattle.midi.specs.declared.Status.the-variants.{Written, Overlong, Refused, Unreadable, Unwritable}
 use Rattle.midi.specs.declared.Outcome.{Outcome}
@@ -17,15 +18,15 @@ pub data Turned (bells : Bells) (file entry exit : List ℕ) (r : Outcome) : Typ
   refused :
       r .status ≡ Refused
       → r .read < length file
-      → number (r .verdict) ≡ readRefusal bells (take (r .read) file) entry
+      → number (r .verdict) ≡ readRefusal (noteOn bells) (take (r .read) file) entry
       → (number (r .verdict) ≡ 0 → ⊥)
       → r .written ≡ 0
       → Turned bells file entry exit r
   written :
       r .status ≡ Written
       → r .read < length file
-      → readRefusal bells (take (r .read) file) entry ≡ 0
-      → take (r .written) exit ≡ fileStrokes bells (take (r .read) file)
-      → r .written ≡ length (fileStrokes bells (take (r .read) file))
+      → readRefusal (noteOn bells) (take (r .read) file) entry ≡ 0
+      → take (r .written) exit ≡ fileStrokes (noteOn bells) (take (r .read) file)
+      → r .written ≡ length (fileStrokes (noteOn bells) (take (r .read) file))
       → Turned bells file entry exit r
   unwritten : r .status ≡ Unwritable → Turned bells file entry exit r

@@ -1,8 +1,8 @@
 -- Where quantities and events of a track stand: they end behind their place and inside the track, a message behind its data bytes, whose
--- first is below 128.
+-- first is below 128; two stand right before its end.
 -- Assumes nothing.
 use Prim.Native.Nat.{ℕ, zero, suc, _+_, _-_, _*_, _≤_, _<_}
-use mathlib.Core.Path.{_≡_, subst}
+use mathlib.Core.Path.{_≡_, refl, subst}
 use mathlib.Core.Bool.{true, _&&_, _||_}
 use mathlib.Core.List.{List}
 use native.Mathlib.Omega.{arith}
@@ -38,11 +38,20 @@ firstData (Message status first second) = first
 firstData Exclusive = 0
 firstData (Meta type n) = 0
 
+-- the data bytes of a message that has two stand right before its end
+abbrev pub DataStand : List ℕ → Event → ℕ → Type 0
+DataStand track (Message status first second) end =
+    dataCount status ≡ 2
+    → (at : ℕ) × (end ≡ at + 2) × (byte track at ≡ first) × (byte track (at + 1) ≡ second)
+DataStand track Exclusive end = Unit {0}
+DataStand track (Meta type n) end = Unit {0}
+
 -- An event stands behind a place of a track.
 pub record Stands (track : List ℕ) (from : ℕ) (placed : Placed) : Type 0 where
   pub behind : from + leastBytes (placed .event) ≤ placed .end
   pub within : placed .end ≤ length track
   pub small : firstData (placed .event) < 128
+  pub two : DataStand track (placed .event) (placed .end)
 
 abbrev pub StepStands : List ℕ → ℕ → Step → Type 0
 StepStands track from (Read placed) = Stands track from placed
@@ -84,12 +93,12 @@ module _ (track : List ℕ) where
 
     exclusive-stands : (q : Quantity) → QuantityEnds track from q → StepStands track from (exclusiveOf q)
     unfolding exclusiveOf
-    exclusive-stands (Value n end) e = record { behind = omega arith; within = e .1; small = omega arith }
+    exclusive-stands (Value n end) e = record { behind = omega arith; within = e .1; small = omega arith; two = tt }
     exclusive-stands NoValue e = tt
 
     meta-stands : (type : ℕ) (q : Quantity) → QuantityEnds track from q → StepStands track from (metaOf type q)
     unfolding metaOf
-    meta-stands type (Value n end) e = record { behind = omega arith; within = e .1; small = omega arith }
+    meta-stands type (Value n end) e = record { behind = omega arith; within = e .1; small = omega arith; two = tt }
     meta-stands type NoValue e = tt
 
     block-at-ends : (at : ℕ) → from ≤ at → QuantityEnds track from (blockAt track at)
@@ -102,12 +111,22 @@ module _ (track : List ℕ) where
         (λ one. either (StepStands track from) (isData track at)
         (λ h.
         let inside = data-inside at h in
-        record { behind = omega (arith, eqb-true (dataCount status) 1 one); within = omega arith; small = data-small at h })
+        record {
+          behind = omega (arith, eqb-true (dataCount status) 1 one);
+          within = omega arith;
+          small = data-small at h;
+          two = λ two. absurd (omega (arith, two, eqb-true (dataCount status) 1 one));
+        })
         (λ _. tt))
         (λ _. either (StepStands track from) (isData track at && isData track (at + 1))
         (λ h.
         let inside = data-inside (at + 1) (and-right (isData track at) _ h) in
-        record { behind = omega (arith, data-count status); within = omega arith; small = data-small at (and-left _ _ h) })
+        record {
+          behind = omega (arith, data-count status);
+          within = omega arith;
+          small = data-small at (and-left _ _ h);
+          two = λ _. (at, refl, refl, refl);
+        })
         (λ _. tt))
 
     pub event-stands : (running at : ℕ) → from ≤ at → StepStands track from (eventAt track running at)

@@ -7,9 +7,9 @@ use native.Mathlib.Omega.{arith}
 use lib.ListN.{length, take, drop, length-append}
 use lib.Seq.{take-all, take-append-seam, drop-nil}
 use borrow.Author.Tests.{lt-ltb, le-ltb, eq-eqb, ne-eqb}
-use Rattle.midi_file.specs.declared.Bells.{Bells}
 use Rattle.midi_file.specs.declared.chunk.Chunk.the-variants.{Track, Missing, Cut}
 use Rattle.midi_file.specs.File.{part, trackOf}
+use Rattle.midi_file.specs.Strokes.{Rule}
 use Rattle.midi_file.specs.Calls.{
   trackStrokes,
   trackRefusal,
@@ -60,24 +60,24 @@ unfolding filled
 lent-none strokes entry part e = rw (e, drop-nil {A = ℕ} (length strokes))
 
 -- What a file is judged as, told by its track chunk.
-module _ (bells : Bells) (file entry : List ℕ) where
+module _ (rule : Rule) (file entry : List ℕ) where
   abbrev pub Reads : ℕ → ℕ → List ℕ → Type 0
   Reads n count out =
-      (n ≡ readRefusal bells file entry) × ((count ≡ readCount bells file entry) × (out ≡ readBuffer bells file entry))
+      (n ≡ readRefusal rule file entry) × ((count ≡ readCount rule file entry) × (out ≡ readBuffer rule file entry))
 
   pub read-missing : trackOf file ≡ Missing → Reads 15 0 entry
   unfolding fileRefusal readRefusal readCount readBuffer
-  read-missing e = judged-refused (fileRefusal bells file) (fileStrokes bells file) entry 15 (rw (fileRefusal, e)) (λ z. omega arith)
+  read-missing e = judged-refused (fileRefusal rule file) (fileStrokes rule file) entry 15 (rw (fileRefusal, e)) (λ z. omega arith)
 
   pub read-cut : trackOf file ≡ Cut → Reads 16 0 entry
   unfolding fileRefusal readRefusal readCount readBuffer
-  read-cut e = judged-refused (fileRefusal bells file) (fileStrokes bells file) entry 16 (rw (fileRefusal, e)) (λ z. omega arith)
+  read-cut e = judged-refused (fileRefusal rule file) (fileStrokes rule file) entry 16 (rw (fileRefusal, e)) (λ z. omega arith)
 
   pub read-whole :
       (start n : ℕ)
       → trackOf file ≡ Track start n
       → (k count : ℕ) (out : List ℕ)
-      → Judged (trackRefusal bells (part file start n)) (trackStrokes bells (part file start n)) entry k count out
+      → Judged (trackRefusal rule (part file start n)) (trackStrokes rule (part file start n)) entry k count out
       → Reads k count out
   unfolding fileRefusal fileStrokes readRefusal readCount readBuffer
   read-whole start n e k count out q = rw (fileRefusal, fileStrokes, e) q
@@ -85,14 +85,14 @@ module _ (bells : Bells) (file entry : List ℕ) where
   -- what an accepted reading leaves: the strokes stand at the buffer's front
   pub accepted-stands :
       (count : ℕ) (out : List ℕ)
-      → readRefusal bells file entry ≡ 0
-      → count ≡ readCount bells file entry
-      → out ≡ readBuffer bells file entry
-      → (take count out ≡ fileStrokes bells file) × ((count ≡ length (fileStrokes bells file)) × (count ≤ length out))
+      → readRefusal rule file entry ≡ 0
+      → count ≡ readCount rule file entry
+      → out ≡ readBuffer rule file entry
+      → (take count out ≡ fileStrokes rule file) × ((count ≡ length (fileStrokes rule file)) × (count ≤ length out))
   unfolding readRefusal readCount readBuffer
   accepted-stands count out z c w =
-      let strokes = fileStrokes bells file in
-      let good = eq-eqb (judgedRefusal (fileRefusal bells file) strokes entry) 0 z in
+      let strokes = fileStrokes rule file in
+      let good = eq-eqb (judgedRefusal (fileRefusal rule file) strokes entry) 0 z in
       let counted : count ≡ length strokes = c ∙ rw good in
       let stands : out ≡ strokes ++ drop (length strokes) entry = w ∙ rw good in (
         rw (counted, stands) (take-append-seam strokes (drop (length strokes) entry)),

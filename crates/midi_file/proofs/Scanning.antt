@@ -11,7 +11,6 @@ use lib.ListN.{length, take, drop, set, length-append, length-take, length-drop,
 use lib.Seq.{take-nil, take-all, take-append-le, drop-cons, set-append-seam, append-snoc}
 use Rattle.lists.proofs.Cases.{by-test}
 use Rattle.midi_file.proofs.Bounds.{event-bounds}
-use Rattle.midi_file.specs.declared.Bells.{Bells}
 use Rattle.midi_file.specs.declared.event.Placed.{Placed}
 use Rattle.midi_file.specs.declared.event.Step.the-variants.{Read, Bad}
 use Rattle.midi_file.specs.declared.note.Note.the-variants.{Outside, Silent, Struck}
@@ -30,7 +29,7 @@ use Rattle.midi_file.specs.Track.{
   isEnd,
   isBare,
 }
-use Rattle.midi_file.specs.Strokes.{noteOf, strokesOf, anyOutside, eventsRefusal}
+use Rattle.midi_file.specs.Strokes.{Rule, noteOf, strokesOf, anyOutside, eventsRefusal}
 use Rattle.midi_file.specs.Calls.{trackStrokes, trackRefusal, filled}
 
 -- Filling a buffer with one byte more.
@@ -66,13 +65,13 @@ module _ (bytes buf : List ℕ) (b : ℕ) where
       )
 
 -- The events before a place gave these strokes, and the rest will give the others.
-pub record Going (bells : Bells) (track entry out : List ℕ) (at count : ℕ) (rest : Events) : Type 0 where
+pub record Going (rule : Rule) (track entry out : List ℕ) (at count : ℕ) (rest : Events) : Type 0 where
   pub early : List ℕ
   pub counted : count ≡ length early
   pub few : count ≤ at
   pub written : out ≡ filled early entry
-  pub strokes : trackStrokes bells track ≡ early ++ strokesOf bells (rest .list)
-  pub refusal : trackRefusal bells track ≡ eventsRefusal bells rest
+  pub strokes : trackStrokes rule track ≡ early ++ strokesOf rule (rest .list)
+  pub refusal : trackRefusal rule track ≡ eventsRefusal rule rest
 
 -- the events behind one that was read
 abbrev pub behind : ℕ → List ℕ → Placed → Events
@@ -91,9 +90,9 @@ unfolding followed
 one-more spare track placed = by-test (isEnd (placed .event)) (λ e. rw e) (λ e. rw e)
 
 -- nothing is read yet
-pub no-events : (bells : Bells) (track entry : List ℕ) → Going bells track entry entry 0 0 (eventsFrom (suc (length track)) track 0 0)
+pub no-events : (rule : Rule) (track entry : List ℕ) → Going rule track entry entry 0 0 (eventsFrom (suc (length track)) track 0 0)
 unfolding filled eventsOf
-no-events bells track entry =
+no-events rule track entry =
     record {
       early = [];
       counted = refl;
@@ -104,24 +103,24 @@ no-events bells track entry =
     }
 
 -- what a verdict's number, the count and the buffer are in the end
-abbrev pub Done : Bells → List ℕ → List ℕ → List ℕ → ℕ → ℕ → Type 0
-Done bells track entry out count n =
-    (n ≡ trackRefusal bells track)
-    × ((count ≡ length (trackStrokes bells track)) × (out ≡ filled (trackStrokes bells track) entry))
+abbrev pub Done : Rule → List ℕ → List ℕ → List ℕ → ℕ → ℕ → Type 0
+Done rule track entry out count n =
+    (n ≡ trackRefusal rule track)
+    × ((count ≡ length (trackStrokes rule track)) × (out ≡ filled (trackStrokes rule track) entry))
 
-module _ (bells : Bells) (track entry out : List ℕ) (at count : ℕ) (rest : Events) (q : Going bells track entry out at count rest) where
+module _ (rule : Rule) (track entry out : List ℕ) (at count : ℕ) (rest : Events) (q : Going rule track entry out at count rest) where
   -- reading ends here
   pub stopped :
       (n : ℕ)
-      → strokesOf bells (rest .list) ≡ []
-      → n ≡ eventsRefusal bells rest
-      → (n ≡ trackRefusal bells track)
-      × ((count ≡ length (trackStrokes bells track)) × (out ≡ filled (trackStrokes bells track) entry))
+      → strokesOf rule (rest .list) ≡ []
+      → n ≡ eventsRefusal rule rest
+      → (n ≡ trackRefusal rule track)
+      × ((count ≡ length (trackStrokes rule track)) × (out ≡ filled (trackStrokes rule track) entry))
   stopped n none e =
-      let all : trackStrokes bells track ≡ q .early = q .strokes ∙ rw none (append-nil (q .early)) in
+      let all : trackStrokes rule track ≡ q .early = q .strokes ∙ rw none (append-nil (q .early)) in
       (e ∙ sym (q .refusal), (rw all (q .counted), rw all (q .written)))
 
-  pub further : (end : ℕ) → at ≤ end → Going bells track entry out end count rest
+  pub further : (end : ℕ) → at ≤ end → Going rule track entry out end count rest
   further end l =
       record {
         early = q .early;
@@ -133,23 +132,23 @@ module _ (bells : Bells) (track entry out : List ℕ) (at count : ℕ) (rest : E
       }
 
   -- the same rest, said otherwise
-  pub restated : (other : Events) → rest ≡ other → Going bells track entry out at count other
-  restated other e = subst (λ r. Going bells track entry out at count r) e q
+  pub restated : (other : Events) → rest ≡ other → Going rule track entry out at count other
+  restated other e = subst (λ r. Going rule track entry out at count r) e q
 
 module _
-    (bells : Bells)
+    (rule : Rule)
     (track entry out : List ℕ)
     (at count : ℕ)
     (placed : Placed)
     (rest : Events)
-    (q : Going bells track entry out at count (joined placed rest))
+    (q : Going rule track entry out at count (joined placed rest))
     (forward : at < placed .end)
   where
-    pub outside : noteOf bells (placed .event) ≡ Outside → Done bells track entry out count 17
+    pub outside : noteOf rule (placed .event) ≡ Outside → Done rule track entry out count 17
     unfolding strokesOf anyOutside
-    outside e = stopped bells track entry out at count (joined placed rest) q 17 (rw (strokesOf, e)) (rw (anyOutside, e))
+    outside e = stopped rule track entry out at count (joined placed rest) q 17 (rw (strokesOf, e)) (rw (anyOutside, e))
 
-    pub silent : noteOf bells (placed .event) ≡ Silent → Going bells track entry out (placed .end) count rest
+    pub silent : noteOf rule (placed .event) ≡ Silent → Going rule track entry out (placed .end) count rest
     unfolding strokesOf anyOutside
     silent e =
         record {
@@ -161,8 +160,8 @@ module _
           refusal = q .refusal ∙ rw (anyOutside, e);
         }
 
-    module _ (key : ℕ) (e : noteOf bells (placed .event) ≡ Struck key) where
-      struck : (later : List ℕ) → later ≡ filled (q .early ++ key ∷ []) entry → Going bells track entry later (placed .end) (count + 1) rest
+    module _ (key : ℕ) (e : noteOf rule (placed .event) ≡ Struck key) where
+      struck : (later : List ℕ) → later ≡ filled (q .early ++ key ∷ []) entry → Going rule track entry later (placed .end) (count + 1) rest
       unfolding strokesOf anyOutside
       struck later w =
           record {
@@ -170,17 +169,17 @@ module _
             counted = ap (λ n. n + 1) (q .counted) ∙ sym (length-append (q .early) (key ∷ []));
             few = omega (arith, q .few);
             written = w;
-            strokes = q .strokes ∙ rw (strokesOf, e, append-snoc (q .early) key (strokesOf bells (rest .list)));
+            strokes = q .strokes ∙ rw (strokesOf, e, append-snoc (q .early) key (strokesOf rule (rest .list)));
             refusal = q .refusal ∙ rw (anyOutside, e);
           }
 
-      pub struck-in : count < length out → Going bells track entry (set out count key) (placed .end) (count + 1) rest
+      pub struck-in : count < length out → Going rule track entry (set out count key) (placed .end) (count + 1) rest
       struck-in l =
           let long = ap length (q .written) ∙ length-filled (q .early) entry in
           let room : length (q .early) < length entry = omega (arith, l, q .counted, long) in
           struck (set out count key) (rw (q .written, q .counted) (filled-in (q .early) entry key room))
 
-      pub struck-out : length out ≤ count → Going bells track entry out (placed .end) (count + 1) rest
+      pub struck-out : length out ≤ count → Going rule track entry out (placed .end) (count + 1) rest
       struck-out l =
           let long = ap length (q .written) ∙ length-filled (q .early) entry in
           let full : length entry ≤ length (q .early) = omega (arith, l, q .counted, long) in
@@ -191,43 +190,43 @@ abbrev pub coming : ℕ → List ℕ → ℕ → ℕ → Events
 coming spare track running at = followed track (behind spare track) (eventAt track running at)
 
 -- What is known at the head of the loop over events, and at an event behind its time: enough fuel is left.
-pub record Head (bells : Bells) (track entry out : List ℕ) (running at count : ℕ) : Type 0 where
+pub record Head (rule : Rule) (track entry out : List ℕ) (running at count : ℕ) : Type 0 where
   pub spare : ℕ
   pub within : at ≤ length track
   pub enough : length track ≤ spare + at
-  pub going : Going bells track entry out at count (eventsFrom (suc spare) track running at)
+  pub going : Going rule track entry out at count (eventsFrom (suc spare) track running at)
 
-pub record Here (bells : Bells) (track entry out : List ℕ) (running at count : ℕ) : Type 0 where
+pub record Here (rule : Rule) (track entry out : List ℕ) (running at count : ℕ) : Type 0 where
   pub spare : ℕ
   pub within : at ≤ length track
   pub enough : length track ≤ spare + at
-  pub going : Going bells track entry out at count (coming spare track running at)
+  pub going : Going rule track entry out at count (coming spare track running at)
 
 -- What is known once an event is read and gave its stroke, if it gave one.
-pub record Gone (bells : Bells) (track entry out : List ℕ) (placed : Placed) (count : ℕ) : Type 0 where
+pub record Gone (rule : Rule) (track entry out : List ℕ) (placed : Placed) (count : ℕ) : Type 0 where
   pub spare : ℕ
   pub within : placed .end ≤ length track
   pub enough : length track < spare + placed .end
-  pub going : Going bells track entry out (placed .end) count (onward spare track placed)
+  pub going : Going rule track entry out (placed .end) count (onward spare track placed)
 
-pub head-none : (bells : Bells) (track entry : List ℕ) → Head bells track entry entry 0 0 0
-head-none bells track entry =
-    record { spare = length track; within = omega arith; enough = omega arith; going = no-events bells track entry }
+pub head-none : (rule : Rule) (track entry : List ℕ) → Head rule track entry entry 0 0 0
+head-none rule track entry =
+    record { spare = length track; within = omega arith; enough = omega arith; going = no-events rule track entry }
 
-module _ (bells : Bells) (track entry out : List ℕ) (running at count : ℕ) where
-  module _ (q : Head bells track entry out running at count) where
-    pub head-broken : NoValue ≡ quantityAt track at → Done bells track entry out count 16
+module _ (rule : Rule) (track entry out : List ℕ) (running at count : ℕ) where
+  module _ (q : Head rule track entry out running at count) where
+    pub head-broken : NoValue ≡ quantityAt track at → Done rule track entry out count 16
     unfolding eventsFrom followed behindTime strokesOf anyOutside
     head-broken e =
-        stopped bells track entry out at count broken
-        (restated bells track entry out at count _ (q .going) broken (rw (← e))) 16 refl refl
+        stopped rule track entry out at count broken
+        (restated rule track entry out at count _ (q .going) broken (rw (← e))) 16 refl refl
 
     pub head-here :
         (value next : ℕ)
         → Value value next ≡ quantityAt track at
         → at ≤ next
         → next ≤ length track
-        → Here bells track entry out running next count
+        → Here rule track entry out running next count
     unfolding eventsFrom behindTime
     head-here value next e forward inside =
         record {
@@ -235,60 +234,60 @@ module _ (bells : Bells) (track entry out : List ℕ) (running at count : ℕ) w
           within = inside;
           enough = omega (arith, q .enough);
           going =
-              further bells track entry out at count _
-              (restated bells track entry out at count _ (q .going) (coming (q .spare) track running next) (rw (← e)))
+              further rule track entry out at count _
+              (restated rule track entry out at count _ (q .going) (coming (q .spare) track running next) (rw (← e)))
               next forward;
         }
 
-  module _ (q : Here bells track entry out running at count) where
-    pub here-broken : eventAt track running at ≡ Bad → Done bells track entry out count 16
+  module _ (q : Here rule track entry out running at count) where
+    pub here-broken : eventAt track running at ≡ Bad → Done rule track entry out count 16
     unfolding followed strokesOf anyOutside
     here-broken e =
-        stopped bells track entry out at count broken
-        (restated bells track entry out at count _ (q .going) broken (rw e)) 16 refl refl
+        stopped rule track entry out at count broken
+        (restated rule track entry out at count _ (q .going) broken (rw e)) 16 refl refl
 
     module _ (placed : Placed) (e : eventAt track running at ≡ Read placed) where
-      pub here-read : Going bells track entry out at count (joined placed (onward (q .spare) track placed))
+      pub here-read : Going rule track entry out at count (joined placed (onward (q .spare) track placed))
       here-read =
-          restated bells track entry out at count _ (q .going) (joined placed (onward (q .spare) track placed))
+          restated rule track entry out at count _ (q .going) (joined placed (onward (q .spare) track placed))
           (ap (followed track (behind (q .spare) track)) e ∙ one-more (q .spare) track placed)
 
       bounds : (at < placed .end) × (placed .end ≤ length track)
       bounds = event-bounds track running at placed e
 
-      pub here-outside : noteOf bells (placed .event) ≡ Outside → Done bells track entry out count 17
-      here-outside n = outside bells track entry out at count placed _ here-read (bounds .0) n
+      pub here-outside : noteOf rule (placed .event) ≡ Outside → Done rule track entry out count 17
+      here-outside n = outside rule track entry out at count placed _ here-read (bounds .0) n
 
       gone :
           (later : List ℕ) (more : ℕ)
-          → Going bells track entry later (placed .end) more (onward (q .spare) track placed)
-          → Gone bells track entry later placed more
+          → Going rule track entry later (placed .end) more (onward (q .spare) track placed)
+          → Gone rule track entry later placed more
       gone later more g =
           record { spare = q .spare; within = bounds .1; enough = omega (arith, q .enough, bounds .0); going = g }
 
-      pub here-silent : noteOf bells (placed .event) ≡ Silent → Gone bells track entry out placed count
-      here-silent n = gone out count (silent bells track entry out at count placed _ here-read (bounds .0) n)
+      pub here-silent : noteOf rule (placed .event) ≡ Silent → Gone rule track entry out placed count
+      here-silent n = gone out count (silent rule track entry out at count placed _ here-read (bounds .0) n)
 
-      module _ (key : ℕ) (n : noteOf bells (placed .event) ≡ Struck key) where
-        pub here-struck : count < length out → Gone bells track entry (set out count key) placed (count + 1)
+      module _ (key : ℕ) (n : noteOf rule (placed .event) ≡ Struck key) where
+        pub here-struck : count < length out → Gone rule track entry (set out count key) placed (count + 1)
         here-struck l =
-            gone (set out count key) (count + 1) (struck-in bells track entry out at count placed _ here-read (bounds .0) key n l)
+            gone (set out count key) (count + 1) (struck-in rule track entry out at count placed _ here-read (bounds .0) key n l)
 
-        pub here-full : length out ≤ count → Gone bells track entry out placed (count + 1)
-        here-full l = gone out (count + 1) (struck-out bells track entry out at count placed _ here-read (bounds .0) key n l)
+        pub here-full : length out ≤ count → Gone rule track entry out placed (count + 1)
+        here-full l = gone out (count + 1) (struck-out rule track entry out at count placed _ here-read (bounds .0) key n l)
 
-module _ (bells : Bells) (track entry out : List ℕ) (placed : Placed) (count : ℕ) (q : Gone bells track entry out placed count) where
+module _ (rule : Rule) (track entry out : List ℕ) (placed : Placed) (count : ℕ) (q : Gone rule track entry out placed count) where
   pub gone-end :
       isEnd (placed .event) ≡ true
       → (n : ℕ)
       → n ≡ cond (isBare (placed .event) && eqb (placed .end) (length track)) 0 16
-      → Done bells track entry out count n
+      → Done rule track entry out count n
   unfolding strokesOf anyOutside
   gone-end e n w =
-      stopped bells track entry out (placed .end) count (ending track placed)
-      (restated bells track entry out (placed .end) count _ (q .going) (ending track placed) (rw e)) n refl w
+      stopped rule track entry out (placed .end) count (ending track placed)
+      (restated rule track entry out (placed .end) count _ (q .going) (ending track placed) (rw e)) n refl w
 
-  pub gone-on : isEnd (placed .event) ≡ false → Head bells track entry out (runningBehind (placed .event)) (placed .end) count
+  pub gone-on : isEnd (placed .event) ≡ false → Head rule track entry out (runningBehind (placed .event)) (placed .end) count
   gone-on e =
       let s : q .spare ≡ suc (q .spare - 1) = omega (arith, q .within, q .enough) in
       record {
@@ -296,14 +295,14 @@ module _ (bells : Bells) (track entry out : List ℕ) (placed : Placed) (count :
         within = q .within;
         enough = omega (arith, q .enough);
         going =
-            restated bells track entry out (placed .end) count _ (q .going)
+            restated rule track entry out (placed .end) count _ (q .going)
             (eventsFrom (suc (q .spare - 1)) track (runningBehind (placed .event)) (placed .end))
             (rw e (ap (λ n. eventsFrom n track (runningBehind (placed .event)) (placed .end)) s));
       }
 
 -- a buffer keeps its length
 pub done-length :
-    (bells : Bells) (track entry : List ℕ) {out : List ℕ} {count n : ℕ}
-    → Done bells track entry out count n
+    (rule : Rule) (track entry : List ℕ) {out : List ℕ} {count n : ℕ}
+    → Done rule track entry out count n
     → length out ≡ length entry
-done-length bells track entry d = ap length (d .1 .1) ∙ length-filled (trackStrokes bells track) entry
+done-length rule track entry d = ap length (d .1 .1) ∙ length-filled (trackStrokes rule track) entry

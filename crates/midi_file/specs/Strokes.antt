@@ -1,4 +1,4 @@
--- The strokes of a track's events between a lowest and a highest bell, and what refuses them (document 02, A.2).
+-- The strokes of a track's events between a lowest and a highest bell, and what refuses them (document 02, A.2 and A.6).
 use Prim.Native.Nat.{ℕ}
 use mathlib.Core.Bool.{Bool, true, false, cond, not, _&&_}
 use mathlib.Core.List.{List, [], _∷_}
@@ -15,41 +15,46 @@ use Rattle.midi_file.specs.Track.{Events}
 abbrev pub isOutside : Bells → ℕ → Bool
 isOutside bells key = not (leb (bells .lowest) key && leb key (bells .highest))
 
--- The rule at a Note On: "a key outside the lowest and highest bell given refuses the file, then velocity 0 gives no stroke."
-unfoldable pub noteOn : Bells → ℕ → ℕ → Note
+-- A rule at a Note On says what its key and its velocity give.
+abbrev pub Rule : Type 0
+Rule = ℕ → ℕ → Note
+
+-- The rule: velocity 0 gives no stroke, then "a key outside the lowest and highest bell given refuses the file"; "the velocity rule now goes
+-- first" (document 02, A.6).
+unfoldable pub noteOn : Bells → Rule
 noteOn bells key velocity =
-    cond (isOutside bells key) Outside
-    (cond (eqb velocity 0) Silent
+    cond (eqb velocity 0) Silent
+    (cond (isOutside bells key) Outside
     (Struck key))
 
 -- Note On: the statuses 9n (hex), "on any channel". "Everything else is dropped."
 abbrev pub isNoteOn : ℕ → Bool
 isNoteOn status = leb 144 status && ltb status 160
 
-abbrev pub noteOf : Bells → Event → Note
-noteOf bells (Message status key velocity) = cond (isNoteOn status) (noteOn bells key velocity) Silent
-noteOf bells Exclusive = Silent
-noteOf bells (Meta type n) = Silent
+abbrev pub noteOf : Rule → Event → Note
+noteOf rule (Message status key velocity) = cond (isNoteOn status) (rule key velocity) Silent
+noteOf rule Exclusive = Silent
+noteOf rule (Meta type n) = Silent
 
 -- What the events give, up to the first that is refused: the strokes, and whether one is outside.
-unfoldable pub strokesOf : Bells → List Placed → List ℕ
-strokesOf bells [] = []
-strokesOf bells (placed ∷ events) =
-    elim (noteOf bells (placed .event)) [
+unfoldable pub strokesOf : Rule → List Placed → List ℕ
+strokesOf rule [] = []
+strokesOf rule (placed ∷ events) =
+    elim (noteOf rule (placed .event)) [
       | Outside ↦ []
-      | Silent ↦ strokesOf bells events
-      | Struck key ↦ key ∷ strokesOf bells events
+      | Silent ↦ strokesOf rule events
+      | Struck key ↦ key ∷ strokesOf rule events
     ]
 
-unfoldable pub anyOutside : Bells → List Placed → Bool
-anyOutside bells [] = false
-anyOutside bells (placed ∷ events) =
-    elim (noteOf bells (placed .event)) [
+unfoldable pub anyOutside : Rule → List Placed → Bool
+anyOutside rule [] = false
+anyOutside rule (placed ∷ events) =
+    elim (noteOf rule (placed .event)) [
       | Outside ↦ true
-      | Silent ↦ anyOutside bells events
-      | Struck key ↦ anyOutside bells events
+      | Silent ↦ anyOutside rule events
+      | Struck key ↦ anyOutside rule events
     ]
 
 -- "The first met in the file is given": a broken event stands behind all that are listed, 17 before 16.
-abbrev pub eventsRefusal : Bells → Events → ℕ
-eventsRefusal bells events = cond (anyOutside bells (events .list)) 17 (cond (events .whole) 0 16)
+abbrev pub eventsRefusal : Rule → Events → ℕ
+eventsRefusal rule events = cond (anyOutside rule (events .list)) 17 (cond (events .whole) 0 16)

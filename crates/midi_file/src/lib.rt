@@ -4,6 +4,7 @@ ghost use mathlib.Core.Bool.{cond, _&&_};
 ghost use lib.ListN.{length};
 ghost use Rattle.refusal.specs.Number.{number};
 ghost use Rattle.midi_file.specs.Track.{isBare};
+ghost use Rattle.midi_file.specs.Strokes.{noteOn};
 ghost use Rattle.midi_file.specs.Calls.{
   trackStrokes,
   trackRefusal,
@@ -58,9 +59,9 @@ fn closing(event: Event, last: bool) -> Verdict
 
 // Reads a track up to its end or its first refusal: judges it, counts its strokes, and writes as many of them as the buffer has room for.
 fn scan(track: &[u8], bells: Bells, out: &mut [u8]) -> Reading
-    ensures verdict { λ r. ⌜ number (r .verdict) ≡ trackRefusal bells (now (track .entry)) ⌝ }
-    ensures count { λ r. ⌜ r .count ≡ length (trackStrokes bells (now (track .entry))) ⌝ }
-    ensures buffer { λ r. ⌜ now (out .exit) ≡ filled (trackStrokes bells (now (track .entry))) (now (out .entry)) ⌝ }
+    ensures verdict { λ r. ⌜ number (r .verdict) ≡ trackRefusal (noteOn bells) (now (track .entry)) ⌝ }
+    ensures count { λ r. ⌜ r .count ≡ length (trackStrokes (noteOn bells) (now (track .entry))) ⌝ }
+    ensures buffer { λ r. ⌜ now (out .exit) ≡ filled (trackStrokes (noteOn bells) (now (track .entry))) (now (out .entry)) ⌝ }
 {
     let mut at: usize = 0;
     let mut running: u8 = 0;
@@ -110,9 +111,9 @@ fn scan(track: &[u8], bells: Bells, out: &mut [u8]) -> Reading
 
 // Reads a track: once to judge and count, and once to write.
 fn read_track(track: &[u8], bells: Bells, out: &mut [u8]) -> Reading
-    ensures verdict { λ r. ⌜ number (r .verdict) ≡ trackVerdict bells (now (track .entry)) (now (out .entry)) ⌝ }
-    ensures count { λ r. ⌜ r .count ≡ trackCount bells (now (track .entry)) (now (out .entry)) ⌝ }
-    ensures buffer { λ r. ⌜ now (out .exit) ≡ trackBuffer bells (now (track .entry)) (now (out .entry)) ⌝ }
+    ensures verdict { λ r. ⌜ number (r .verdict) ≡ trackVerdict (noteOn bells) (now (track .entry)) (now (out .entry)) ⌝ }
+    ensures count { λ r. ⌜ r .count ≡ trackCount (noteOn bells) (now (track .entry)) (now (out .entry)) ⌝ }
+    ensures buffer { λ r. ⌜ now (out .exit) ≡ trackBuffer (noteOn bells) (now (track .entry)) (now (out .entry)) ⌝ }
 {
     let judged = scan(track, bells, &mut out[..0]);
     let verdict = judged.verdict;
@@ -131,9 +132,9 @@ fn read_track(track: &[u8], bells: Bells, out: &mut [u8]) -> Reading
 // Reads a file: the keys of its notes that sound go to the front of the buffer. Refusals: 15 no header or no track, 16 broken, 17 a key
 // outside the bells, 7 no space.
 pub fn read(file: &[u8], bells: Bells, out: &mut [u8]) -> Reading
-    ensures verdict { λ r. ⌜ number (r .verdict) ≡ readRefusal bells (now (file .entry)) (now (out .entry)) ⌝ }
-    ensures count { λ r. ⌜ r .count ≡ readCount bells (now (file .entry)) (now (out .entry)) ⌝ }
-    ensures buffer { λ r. ⌜ now (out .exit) ≡ readBuffer bells (now (file .entry)) (now (out .entry)) ⌝ }
+    ensures verdict { λ r. ⌜ number (r .verdict) ≡ readRefusal (noteOn bells) (now (file .entry)) (now (out .entry)) ⌝ }
+    ensures count { λ r. ⌜ r .count ≡ readCount (noteOn bells) (now (file .entry)) (now (out .entry)) ⌝ }
+    ensures buffer { λ r. ⌜ now (out .exit) ≡ readBuffer (noteOn bells) (now (file .entry)) (now (out .entry)) ⌝ }
 {
     let chunk = track_of(file);
     match chunk {

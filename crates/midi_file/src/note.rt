@@ -15,18 +15,18 @@ pub enum Note {
 fn note_on(bells: Bells, key: u8, velocity: u8) -> Note
     ensures { λ r. ⌜ r ≡ noteOn bells key velocity ⌝ }
 {
-    if key < bells.lowest || bells.highest < key {
-        return Note::Outside;
-    }
     if velocity == 0 {
         return Note::Silent;
+    }
+    if key < bells.lowest || bells.highest < key {
+        return Note::Outside;
     }
     Note::Struck(key)
 }
 
 // What an event gives: at a Note On what its rule says, else silence.
 pub(crate) fn note_of(bells: Bells, event: Event) -> Note
-    ensures { λ r. ⌜ r ≡ noteOf bells event ⌝ }
+    ensures { λ r. ⌜ r ≡ noteOf (noteOn bells) event ⌝ }
 {
     let Event::Message(status, key, velocity) = event else {
         return Note::Silent;

@@ -9,8 +9,8 @@ use native.Mathlib.Omega.{arith}
 use lib.ListN.{length, take, drop, length-take}
 use lib.Seq.{take-nil, take-take, getD-take}
 use Rattle.midi_file.specs.declared.chunk.Chunk.the-variants.{Track}
-use Rattle.midi_file.specs.declared.Bells.{Bells}
 use Rattle.midi_file.specs.File.{byte, part, numberAt, sameBytes, headerLetters, trackLetters, chunkLength, chunkEnd, trackFrom, trackOf}
+use Rattle.midi_file.specs.Strokes.{Rule}
 use Rattle.midi_file.specs.Calls.{fileStrokes, fileRefusal}
 use Rattle.midi_file.proofs.Chunks.{Header, track-place, track-within}
 use Rattle.midi_laws.proofs.Chunks.{track-behind, by-header, no-fuel, at-track, past-chunk, by-chunk}
@@ -90,13 +90,13 @@ module _
       part-same file other (start + n) same start n (omega arith),
     )
 
--- The same strokes and the same refusal, whatever the bells.
+-- The same strokes and the same refusal, whatever the rule.
 pub behind-same :
-    (bells : Bells) (file other : List ℕ) (start n : ℕ)
+    (rule : Rule) (file other : List ℕ) (start n : ℕ)
     → trackOf file ≡ Track start n
     → take (start + n) other ≡ take (start + n) file
-    → (fileRefusal bells other ≡ fileRefusal bells file) × (fileStrokes bells other ≡ fileStrokes bells file)
+    → (fileRefusal rule other ≡ fileRefusal rule file) × (fileStrokes rule other ≡ fileStrokes rule file)
 unfolding fileRefusal fileStrokes
-behind-same bells file other start n e same =
+behind-same rule file other start n e same =
     let q = behind-track file other start n e same in
     (rw (fileRefusal, q .0, e, q .1), rw (fileStrokes, q .0, e, q .1))

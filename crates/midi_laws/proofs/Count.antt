@@ -13,63 +13,57 @@ use Rattle.lists.proofs.Cases.{by-test}
 use Rattle.midi_file.specs.declared.event.Event.{Event}
 use Rattle.midi_file.specs.declared.event.Event.the-variants.{Message, Exclusive, Meta}
 use Rattle.midi_file.specs.declared.event.Placed.{Placed}
-use Rattle.midi_file.specs.declared.note.Note.{Note}
-use Rattle.midi_file.specs.declared.note.Note.the-variants.{Outside, Silent, Struck}
-use Rattle.midi_file.specs.declared.Bells.{Bells}
+use Rattle.midi_file.specs.declared.note.Note.the-variants.{Silent, Struck}
 use Rattle.midi_file.specs.File.{part}
 use Rattle.midi_file.specs.Track.{dataCount, eventsOf}
-use Rattle.midi_file.specs.Strokes.{isNoteOn, noteOf, strokesOf}
+use Rattle.midi_file.specs.Strokes.{Rule, isNoteOn, noteOf, strokesOf}
 use Rattle.midi_file.specs.Calls.{fileStrokes, fileRefusal, readRefusal}
 use Rattle.midi_file.proofs.Bounds.{leastBytes}
-use Rattle.midi_laws.proofs.Stands.{Chained, track-chained, by-track}
+use Rattle.midi_laws.proofs.Stands.{Chained, track-chained, by-note, by-track}
 
 -- a Note On has two data bytes
-note-on-data : (status : ℕ) → isNoteOn status ≡ true → dataCount status ≡ 2
+pub note-on-data : (status : ℕ) → isNoteOn status ≡ true → dataCount status ≡ 2
 note-on-data status e =
     let below : status < 160 = ltb-true status 160 (and-right (leb 144 status) (ltb status 160) e) in
     rw (lt-leb 192 status (omega arith))
 
 -- an event that strikes has two bytes behind its time
-struck-bytes : (bells : Bells) (event : Event) (key : ℕ) → noteOf bells event ≡ Struck key → leastBytes event ≡ 2
-struck-bytes bells (Message status first second) key e =
+struck-bytes : (rule : Rule) (event : Event) (key : ℕ) → noteOf rule event ≡ Struck key → leastBytes event ≡ 2
+struck-bytes rule (Message status first second) key e =
     by-test (isNoteOn status) (λ t. rw (note-on-data status t)) (λ t. let z : Silent ≡ Struck key = rw t at e in cc)
-struck-bytes bells Exclusive key e = cc
-struck-bytes bells (Meta type n) key e = cc
+struck-bytes rule Exclusive key e = cc
+struck-bytes rule (Meta type n) key e = cc
 
 chained-count :
-    (bells : Bells) (track : List ℕ) (at : ℕ) (events : List Placed)
+    (rule : Rule) (track : List ℕ) (at : ℕ) (events : List Placed)
     → at ≤ length track
     → Chained track at events
-    → at + 3 * length (strokesOf bells events) ≤ length track
+    → at + 3 * length (strokesOf rule events) ≤ length track
 unfolding strokesOf
-chained-count bells track at [] h c = omega arith
-chained-count bells track at (placed ∷ events) h c =
-    let more = chained-count bells track (placed .end) events (c .0 .within) (c .1) in
-    let go : (note : Note) → noteOf bells (placed .event) ≡ note → at + 3 * length (strokesOf bells (placed ∷ events)) ≤ length track =
-    elim [
-      | Outside ↦ λ e. rw (strokesOf, e) (omega arith)
-      | Silent ↦ λ e. rw (strokesOf, e) (omega (arith, c .0 .behind))
-      | Struck key ↦ λ e. rw (strokesOf, e) (omega (arith, c .0 .behind, struck-bytes bells (placed .event) key e))
-    ]
-    in
-    go (noteOf bells (placed .event)) refl
+chained-count rule track at [] h c = omega arith
+chained-count rule track at (placed ∷ events) h c =
+    let more = chained-count rule track (placed .end) events (c .0 .within) (c .1) in
+    by-note rule (placed .event)
+    (λ e. rw (strokesOf, e) (omega arith))
+    (λ e. rw (strokesOf, e) (omega (arith, c .0 .behind)))
+    (λ key e. rw (strokesOf, e) (omega (arith, c .0 .behind, struck-bytes rule (placed .event) key e)))
 
-pub three-bytes-a-stroke : (bells : Bells) (file : List ℕ) → 3 * length (fileStrokes bells file) ≤ length file
-three-bytes-a-stroke bells file =
-    by-track (λ (strokes : List ℕ). 3 * length strokes ≤ length file) bells file (omega arith)
+pub three-bytes-a-stroke : (rule : Rule) (file : List ℕ) → 3 * length (fileStrokes rule file) ≤ length file
+three-bytes-a-stroke rule file =
+    by-track (λ (strokes : List ℕ). 3 * length strokes ≤ length file) rule file (omega arith)
     (λ start n.
     let track : List ℕ = part file start n in
     omega (
       arith,
-      chained-count bells track 0 (eventsOf track .list) (omega arith) (track-chained track),
+      chained-count rule track 0 (eventsOf track .list) (omega arith) (track-chained track),
       length-take n (drop start file),
       length-drop start file,
     ))
 
 -- a buffer of a third of the file's bytes is never too short
 pub room-enough :
-    (bells : Bells) (file entry : List ℕ) → length file ≤ 3 * length entry → readRefusal bells file entry ≡ fileRefusal bells file
+    (rule : Rule) (file entry : List ℕ) → length file ≤ 3 * length entry → readRefusal rule file entry ≡ fileRefusal rule file
 unfolding readRefusal
-room-enough bells file entry h =
-    let room = le-ltb (length entry) (length (fileStrokes bells file)) (omega (arith, three-bytes-a-stroke bells file)) in
-    by-test (eqb (fileRefusal bells file) 0) (λ e. rw (e, room) (sym (eqb-true (fileRefusal bells file) 0 e))) (λ e. rw e)
+room-enough rule file entry h =
+    let room = le-ltb (length entry) (length (fileStrokes rule file)) (omega (arith, three-bytes-a-stroke rule file)) in
+    by-test (eqb (fileRefusal rule file) 0) (λ e. rw (e, room) (sym (eqb-true (fileRefusal rule file) 0 e))) (λ e. rw e)

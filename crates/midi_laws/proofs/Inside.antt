@@ -21,7 +21,7 @@ use Rattle.midi_file.specs.Track.{eventsOf}
 use Rattle.midi_file.specs.Strokes.{isOutside, noteOn, isNoteOn, noteOf, strokesOf}
 use Rattle.midi_file.specs.Calls.{fileStrokes}
 use Rattle.midi_file.proofs.Bounds.{firstData}
-use Rattle.midi_laws.proofs.Stands.{Chained, track-chained, by-track}
+use Rattle.midi_laws.proofs.Stands.{Chained, track-chained, by-note, by-track}
 
 -- the key of a bell
 abbrev IsBell : Bells → ℕ → Type 0
@@ -46,10 +46,10 @@ NoteInside bells (Struck key) = IsBell bells key
 note-inside : (bells : Bells) (key velocity : ℕ) → key < 128 → NoteInside bells (noteOn bells key velocity)
 unfolding noteOn
 note-inside bells key velocity small =
-    either (NoteInside bells) (isOutside bells key) (λ _. tt)
-    (λ o. either (NoteInside bells) (eqb velocity 0) (λ _. tt) (λ _. bell-inside bells key o small))
+    either (NoteInside bells) (eqb velocity 0) (λ _. tt)
+    (λ _. either (NoteInside bells) (isOutside bells key) (λ _. tt) (λ o. bell-inside bells key o small))
 
-event-inside : (bells : Bells) (event : Event) → firstData event < 128 → NoteInside bells (noteOf bells event)
+event-inside : (bells : Bells) (event : Event) → firstData event < 128 → NoteInside bells (noteOf (noteOn bells) event)
 event-inside bells (Message status first second) small =
     either (NoteInside bells) (isNoteOn status) (λ _. note-inside bells first second small) (λ _. tt)
 event-inside bells Exclusive small = tt
@@ -63,28 +63,23 @@ more-inside bells key strokes first more zero h = first
 more-inside bells key strokes first more (suc i) h = more i (omega arith)
 
 chained-inside :
-    (bells : Bells) (track : List ℕ) (at : ℕ) (events : List Placed) → Chained track at events → EachBell bells (strokesOf bells events)
+    (bells : Bells) (track : List ℕ) (at : ℕ) (events : List Placed) → Chained track at events → EachBell bells (strokesOf (noteOn bells) events)
 unfolding strokesOf
 chained-inside bells track at [] c = none-inside bells
 chained-inside bells track at (placed ∷ events) c =
     let more = chained-inside bells track (placed .end) events (c .1) in
-    let go : (note : Note) → noteOf bells (placed .event) ≡ note → EachBell bells (strokesOf bells (placed ∷ events)) =
-    elim [
-      | Outside ↦ λ e. rw (strokesOf, e) (none-inside bells)
-      | Silent ↦ λ e. rw (strokesOf, e) more
-      | Struck key ↦
-          λ e.
-          let first : IsBell bells key = subst (NoteInside bells) e (event-inside bells (placed .event) (c .0 .small)) in
-          rw (strokesOf, e) (more-inside bells key (strokesOf bells events) first more)
-    ]
-    in
-    go (noteOf bells (placed .event)) refl
+    by-note (noteOn bells) (placed .event)
+    (λ e. rw (strokesOf, e) (none-inside bells))
+    (λ e. rw (strokesOf, e) more)
+    (λ key e.
+    let first : IsBell bells key = subst (NoteInside bells) e (event-inside bells (placed .event) (c .0 .small)) in
+    rw (strokesOf, e) (more-inside bells key (strokesOf (noteOn bells) events) first more))
 
 pub inside-bells :
     (bells : Bells) (file : List ℕ) (i : ℕ)
-    → i < length (fileStrokes bells file)
-    → (bells .lowest ≤ getD (fileStrokes bells file) i 0)
-    × ((getD (fileStrokes bells file) i 0 ≤ bells .highest) × (getD (fileStrokes bells file) i 0 < 128))
+    → i < length (fileStrokes (noteOn bells) file)
+    → (bells .lowest ≤ getD (fileStrokes (noteOn bells) file) i 0)
+    × ((getD (fileStrokes (noteOn bells) file) i 0 ≤ bells .highest) × (getD (fileStrokes (noteOn bells) file) i 0 < 128))
 inside-bells bells file =
-    by-track (EachBell bells) bells file (none-inside bells)
+    by-track (EachBell bells) (noteOn bells) file (none-inside bells)
     (λ start n. let track : List ℕ = part file start n in chained-inside bells track 0 (eventsOf track .list) (track-chained track))

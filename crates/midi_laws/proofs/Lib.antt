@@ -6,3 +6,7 @@ pub mod Behind
 pub mod Quantities
 pub mod Items
 pub mod Written
+pub mod BothRules
+pub mod FirstLifted
+pub mod FormerRule
+pub mod Changed

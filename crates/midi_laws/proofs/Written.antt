@@ -40,8 +40,8 @@ use Rattle.midi_laws.proofs.Items.{eventOf, aside-step, item-step, item
 -- What events say of the items that they are.
 record Says (bells : Bells) (items : List Item) (events : Events) : Type 0 where
   whole : events .whole ≡ true
-  outside : anyOutside bells (events .list) ≡ not (allInside bells items)
-  strokes : allInside bells items ≡ true → strokesOf bells (events .list) ≡ keys items
+  outside : anyOutside (noteOn bells) (events .list) ≡ not (allInside bells items)
+  strokes : allInside bells items ≡ true → strokesOf (noteOn bells) (events .list) ≡ keys items
 
 -- one item more
 says-more :
@@ -52,23 +52,28 @@ unfolding anyOutside strokesOf allInside keys noteOn
 says-more bells (Channel time status brief key velocity) items events end h =
     by-test (isNoteOn status)
     (λ n.
-    by-test (isOutside bells key)
-    (λ o. record { whole = h .whole; outside = rw (anyOutside, n, noteOn, o); strokes = λ e. let z : false ≡ true = rw (n, o) at e in cc })
-    (λ o.
     by-test (eqb velocity 0)
     (λ v.
     let silent = le-ltb 0 velocity (omega (arith, eqb-true velocity 0 v)) in
     record {
       whole = h .whole;
-      outside = rw (anyOutside, n, noteOn, o, v) (h .outside);
-      strokes = λ e. rw (strokesOf, n, noteOn, o, v, silent) (h .strokes (rw (n, o) at e));
+      outside = rw (anyOutside, n, noteOn, v, silent) (h .outside);
+      strokes = λ e. rw (strokesOf, n, noteOn, v, silent) (h .strokes (rw (n, silent) at e));
     })
     (λ v.
     let heard = lt-ltb 0 velocity (omega (arith, eqb-false velocity 0 v)) in
+    by-test (isOutside bells key)
+    (λ o.
     record {
       whole = h .whole;
-      outside = rw (anyOutside, n, noteOn, o, v) (h .outside);
-      strokes = λ e. rw (strokesOf, n, noteOn, o, v, heard, h .strokes (rw (n, o) at e));
+      outside = rw (anyOutside, n, noteOn, v, o, heard);
+      strokes = λ e. let z : false ≡ true = rw (n, heard, o) at e in cc;
+    })
+    (λ o.
+    record {
+      whole = h .whole;
+      outside = rw (anyOutside, n, noteOn, v, o, heard) (h .outside);
+      strokes = λ e. rw (strokesOf, n, noteOn, v, o, heard, h .strokes (rw (n, heard, o) at e));
     })))
     (λ n.
     record {
@@ -147,8 +152,8 @@ pub written :
     (bells : Bells) (division : ℕ) (items : List Item)
     → EachSayable items
     → length (trackBytes items) < chunkLimit
-    → (fileRefusal bells (fileOf division items) ≡ cond (allInside bells items) 0 17)
-    × (allInside bells items ≡ true → fileStrokes bells (fileOf division items) ≡ keys items)
+    → (fileRefusal (noteOn bells) (fileOf division items) ≡ cond (allInside bells items) 0 17)
+    × (allInside bells items ≡ true → fileStrokes (noteOn bells) (fileOf division items) ≡ keys items)
 unfolding fileRefusal fileStrokes eventsOf
 written bells division items h small =
     let track = trackBytes items in

@@ -77,16 +77,20 @@ abbrev pub EachSayable : List Item → Type 0
 EachSayable [] = Unit {0}
 EachSayable (item ∷ items) = Sayable item × EachSayable items
 
--- The keys of the notes that sound: Note On with a velocity above 0.
+-- The notes that sound: Note On with a velocity above 0.
+abbrev pub sounds : ℕ → ℕ → Bool
+sounds status velocity = isNoteOn status && ltb 0 velocity
+
+-- Their keys.
 unfoldable pub keys : List Item → List ℕ
 keys [] = []
 keys (Channel time status brief key velocity ∷ items) =
-    cond (isNoteOn status && ltb 0 velocity) (key ∷ keys items) (keys items)
+    cond (sounds status velocity) (key ∷ keys items) (keys items)
 keys (Aside time type bytes ∷ items) = keys items
 
--- No Note On has a key outside the bells.
+-- No note that sounds has a key outside the bells.
 unfoldable pub allInside : Bells → List Item → Bool
 allInside bells [] = true
 allInside bells (Channel time status brief key velocity ∷ items) =
-    cond (isNoteOn status) (not (isOutside bells key)) true && allInside bells items
+    cond (sounds status velocity) (not (isOutside bells key)) true && allInside bells items
 allInside bells (Aside time type bytes ∷ items) = allInside bells items

@@ -1,4 +1,4 @@
-// Trials of the reader of MIDI files (document 02, A.2): each rule of its refusals alone, beside a file that just passes, and a small file
+// Trials of the reader of MIDI files (document 02, A.2 and A.6): each rule of its refusals alone, beside a file that just passes, and a small file
 // cut at each byte and with each byte replaced. A line has the call's number, 0 for accepted, and its strokes; every buffer is looked at.
 use crate::print::words;
 use crate::tally::PLACES;
@@ -12,6 +12,7 @@ mod chunks; // chunks.rt: the header and the chunks behind it
 mod events; // events.rt: messages and statuses
 mod hex; // hex.rt: calls, written out
 mod lengths; // lengths.rt: quantities, meta and exclusive events
+mod lifted; // lifted.rt: keys lifted outside the bells
 mod print; // print.rt: words and numbers of a line
 mod small; // small.rt: a small file, cut and replaced
 mod tally; // tally.rt: counters
@@ -22,6 +23,7 @@ fn rules(tally: &mut [u32]) {
     lengths::all(tally);
     events::all(tally);
     bells::all(tally);
+    lifted::all(tally);
 }
 
 fn main() {

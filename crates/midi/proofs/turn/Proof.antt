@@ -8,6 +8,7 @@ use lib.Seq.{length-take-le}
 use Rattle.descriptor.proofs.Written.{all-written}
 use Rattle.refusal.specs.Number.{number}
 use Rattle.refusal.proofs.Distinct.{refused-some}
+use Rattle.midi_file.specs.Strokes.{noteOn}
 use Rattle.midi_file.specs.Calls.{fileStrokes, readRefusal}
 use Rattle.midi_file.proofs.Judging.{accepted-stands}
 use Rattle.midi.specs.Outcome as outcome
@@ -30,16 +31,16 @@ module _ (c : tie.After-enum-told2) where
   abbrev file : List ℕ
   file = take (filled (struck c) .fill .result .count) (filled (struck c) .fill .last .1 .0)
 
-  accepted : readRefusal (begun .args .bells) file (begun .args .out .now) ≡ 0
+  accepted : readRefusal (noteOn (begun .args .bells)) file (begun .args .out .now) ≡ 0
   accepted = sym (struck c .read .ensures .0) ∙ ap number (c .enum-told2 .given .1)
 
   strokes-stand :
       let w = struck c .read in
-      (take (w .result .count) (w .last .1 .1 .0) ≡ fileStrokes (begun .args .bells) file)
-      × ((w .result .count ≡ length (fileStrokes (begun .args .bells) file)) × (w .result .count ≤ length (w .last .1 .1 .0)))
+      (take (w .result .count) (w .last .1 .1 .0) ≡ fileStrokes (noteOn (begun .args .bells)) file)
+      × ((w .result .count ≡ length (fileStrokes (noteOn (begun .args .bells)) file)) × (w .result .count ≤ length (w .last .1 .1 .0)))
   strokes-stand =
       let e = struck c .read .ensures .1 in
-      accepted-stands (begun .args .bells) file (begun .args .out .now) _ _ accepted (e .0) (e .1)
+      accepted-stands (noteOn (begun .args .bells)) file (begun .args .out .now) _ _ accepted (e .0) (e .1)
 
 fill-requires : tie.Need-fill-requires
 fill-requires c κs = search needs

@@ -6,6 +6,7 @@ use lib.ListN.{length}
 use Rattle.refusal.specs.Number.{number}
 use Rattle.midi_file.specs.declared.chunk.Chunk.the-variants.{Track}
 use Rattle.midi_file.specs.File.{trackOf}
+use Rattle.midi_file.specs.Strokes.{noteOn}
 use Rattle.midi_file.proofs.Chunks.{track-within}
 use Rattle.midi_file.proofs.Judging.{read-missing, read-cut, read-whole}
 use borrow.Author.Needs.{needs}
@@ -53,12 +54,12 @@ read-track-requires c κs = search needs
 returns : tie.Need-returns
 returns c =
     let a = c .before .before .before .before .before .args in
-    read-missing (a .bells) (a .file .now) (a .out .now) (sym (c .before .before .track-of .ensures) ∙ c .enum-told .given .1)
+    read-missing (noteOn (a .bells)) (a .file .now) (a .out .now) (sym (c .before .before .track-of .ensures) ∙ c .enum-told .given .1)
 
 returns-2 : tie.Need-returns-2
 returns-2 c =
     let a = c .before .before .before .before .before .args in
-    read-cut (a .bells) (a .file .now) (a .out .now) (sym (c .before .before .track-of .ensures) ∙ c .enum-told2 .given .1)
+    read-cut (noteOn (a .bells)) (a .file .now) (a .out .now) (sym (c .before .before .track-of .ensures) ∙ c .enum-told2 .given .1)
 
 same-length : tie.Need-same-length
 same-length c = search needs
@@ -71,7 +72,7 @@ returns-3 c =
     let start = k .chunk .given .0 .0 in
     let n = k .chunk .given .0 .1 .0 in
     let long : start + n - start ≡ n = omega arith in
-    read-whole (a .bells) (a .file .now) (a .out .now) start n (found k) (number (u .result .verdict)) (u .result .count) (u .last .1 .1 .0)
+    read-whole (noteOn (a .bells)) (a .file .now) (a .out .now) start n (found k) (number (u .result .verdict)) (u .result .count) (u .last .1 .1 .0)
     (rw long at (u .ensures))
 
 pub read-spec : {M : Type 1} → statement M

@@ -4,6 +4,7 @@ use native.Mathlib.Omega.{arith}
 use lib.ListN.{length}
 use Rattle.refusal.specs.Number.{number}
 use Rattle.refusal.proofs.Distinct.{refused-some}
+use Rattle.midi_file.specs.Strokes.{noteOn}
 use Rattle.midi_file.specs.Calls.{trackStrokes, trackRefusal}
 use Rattle.midi_file.proofs.Judging.{judged-refused, judged-short, judged-written, lent-none}
 use borrow.Author.Needs.{needs}
@@ -29,9 +30,9 @@ returns : tie.Need-returns
 returns c =
     let w = c .before .before .before .before in
     let a = w .before .before .before .before .args in
-    let strokes = trackStrokes (a .bells) (a .track .now) in
+    let strokes = trackStrokes (noteOn (a .bells)) (a .track .now) in
     rw (lent-none strokes (a .out .now) (w .scan .last .1 .1 .0) (w .scan .ensures .1 .1))
-    (judged-refused (trackRefusal (a .bells) (a .track .now)) strokes (a .out .now) (number (w .scan .result .verdict))
+    (judged-refused (trackRefusal (noteOn (a .bells)) (a .track .now)) strokes (a .out .now) (number (w .scan .result .verdict))
     (w .scan .ensures .0) (refused-some (c .enum-told .given .1)))
 
 enum-told-2 : tie.Need-enum-told-2
@@ -44,13 +45,13 @@ returns-2 : tie.Need-returns-2
 returns-2 c =
     let w = c .before .before .before .before .before .before in
     let a = w .before .before .before .before .args in
-    let strokes = trackStrokes (a .bells) (a .track .now) in
+    let strokes = trackStrokes (noteOn (a .bells)) (a .track .now) in
     let same = lent-none strokes (a .out .now) (w .scan .last .1 .1 .0) (w .scan .ensures .1 .1) in
-    let good : trackRefusal (a .bells) (a .track .now) ≡ 0 =
+    let good : trackRefusal (noteOn (a .bells)) (a .track .now) ≡ 0 =
     sym (w .scan .ensures .0) ∙ ap number (c .before .before .enum-told2 .given .1)
     in
     rw same
-    (judged-short (trackRefusal (a .bells) (a .track .now)) strokes (a .out .now) good
+    (judged-short (trackRefusal (noteOn (a .bells)) (a .track .now)) strokes (a .out .now) good
     (omega (arith, w .scan .ensures .1 .0, ap length same, c .if1 .taken)))
 
 scan-requires-2 : tie.Need-scan-requires-2
@@ -64,13 +65,13 @@ returns-3 c =
     let k = c .before .before .before .before in
     let w = k .before .before .before .before .before .before in
     let a = w .before .before .before .before .args in
-    let strokes = trackStrokes (a .bells) (a .track .now) in
+    let strokes = trackStrokes (noteOn (a .bells)) (a .track .now) in
     let same = lent-none strokes (a .out .now) (w .scan .last .1 .1 .0) (w .scan .ensures .1 .1) in
-    let good : trackRefusal (a .bells) (a .track .now) ≡ 0 =
+    let good : trackRefusal (noteOn (a .bells)) (a .track .now) ≡ 0 =
     sym (w .scan .ensures .0) ∙ ap number (k .before .before .enum-told2 .given .1)
     in
     let u = c .before .before .scan2 in
-    judged-written (trackRefusal (a .bells) (a .track .now)) strokes (a .out .now) (number (u .result .verdict)) (u .result .count)
+    judged-written (trackRefusal (noteOn (a .bells)) (a .track .now)) strokes (a .out .now) (number (u .result .verdict)) (u .result .count)
     (u .last .1 .1 .0) good (omega (arith, w .scan .ensures .1 .0, ap length same, k .if1 .left)) (u .ensures .0) (u .ensures .1 .0)
     (rw same at (u .ensures .1 .1))
 

@@ -6,6 +6,7 @@ use native.Mathlib.Omega.{arith}
 use lib.ListN.{length}
 use Rattle.midi_file.specs.declared.event.Step.the-variants.{Read}
 use Rattle.midi_file.specs.Track.{eventAt}
+use Rattle.midi_file.specs.Strokes.{noteOn}
 use Rattle.refusal.specs.Number.{number}
 use Rattle.midi_file.proofs.Bounds.{event-bounds}
 use Rattle.midi_file.proofs.Quantities.{Passed, passed-none, passed-out, passed-cut, passed-last, passed-more}
@@ -38,13 +39,13 @@ abbrev μ-loop : tie.MeasureT-loop
 μ-loop track bells out at₀ running count left₀ at left = left
 
 abbrev Inv-events : tie.InvT-events
-Inv-events track bells out₀ at₀ running₀ count₀ out at running count = Head bells track out₀ out running at count
+Inv-events track bells out₀ at₀ running₀ count₀ out at running count = Head (noteOn bells) track out₀ out running at count
 
 abbrev μ-events : tie.MeasureT-events
 μ-events track bells out₀ at₀ running₀ count₀ out at running count = length track - at
 
 events-holds : tie.Need-events-holds Inv-loop μ-loop Inv-events μ-events
-events-holds c = let a = c .before .before .args in head-none (a .bells) (a .track .now) (a .out .now)
+events-holds c = let a = c .before .before .args in head-none (noteOn (a .bells)) (a .track .now) (a .out .now)
 
 loop-holds : tie.Need-loop-holds Inv-loop μ-loop Inv-events μ-events
 loop-holds c =
@@ -84,13 +85,13 @@ here :
     → let l = c .before .before .before .before in
     let g = l .before in
     let a = g .before .before .before .args in
-    Here (a .bells) (a .track .now) (a .out .now) (g .events .out) (g .events .running) (l .loop .at + 1) (g .events .count)
+    Here (noteOn (a .bells)) (a .track .now) (a .out .now) (g .events .out) (g .events .running) (l .loop .at + 1) (g .events .count)
 here c =
     let l = c .before .before .before .before in
     let g = l .before in
     let a = g .before .before .before .args in
     let q = l .loop .inv .1 .1 in
-    head-here (a .bells) (a .track .now) (a .out .now) (g .events .out) (g .events .running) (g .events .at) (g .events .count)
+    head-here (noteOn (a .bells)) (a .track .now) (a .out .now) (g .events .out) (g .events .running) (g .events .at) (g .events .count)
     (g .events .inv) _ (l .loop .at + 1)
     (passed-last (a .track .now) (g .events .at) (q .0) (l .loop .at) (l .loop .left) (q .1) (omega arith) (omega arith) (omega arith))
     (omega arith) (omega arith)
@@ -130,7 +131,7 @@ gone :
     let l = s .before .before .before .before .before .before .before in
     let g = l .before in
     let a = g .before .before .before .args in
-    Gone (a .bells) (a .track .now) (a .out .now) (c .match2 .out) (s .step .given .0 .0) (c .match2 .count)
+    Gone (noteOn (a .bells)) (a .track .now) (a .out .now) (c .match2 .out) (s .step .given .0 .0) (c .match2 .count)
 gone c =
     let s = c .before .before .before in
     let t = s .before .before .before in
@@ -142,18 +143,18 @@ gone c =
     elim (c .match2 .came) [
       | inl w ↦
           rw (w .2, w .3)
-          (here-silent (a .bells) (a .track .now) (a .out .now) (ev .out) (ev .running) (l .loop .at + 1) (ev .count) (here t)
+          (here-silent (noteOn (a .bells)) (a .track .now) (a .out .now) (ev .out) (ev .running) (l .loop .at + 1) (ev .count) (here t)
           (s .step .given .0 .0) (read s) (sym n ∙ w .1 .given .1))
       | inr w ↦
           rw (w .4, w .5)
           (elim (w .3 .came) [
             | inl v ↦
                 rw (v .1)
-                (here-struck (a .bells) (a .track .now) (a .out .now) (ev .out) (ev .running) (l .loop .at + 1) (ev .count) (here t)
+                (here-struck (noteOn (a .bells)) (a .track .now) (a .out .now) (ev .out) (ev .running) (l .loop .at + 1) (ev .count) (here t)
                 (s .step .given .0 .0) (read s) (w .1 .given .0 .0) (sym n ∙ w .1 .given .1) (v .0 .taken))
             | inr v ↦
                 rw (v .1)
-                (here-full (a .bells) (a .track .now) (a .out .now) (ev .out) (ev .running) (l .loop .at + 1) (ev .count) (here t)
+                (here-full (noteOn (a .bells)) (a .track .now) (a .out .now) (ev .out) (ev .running) (l .loop .at + 1) (ev .count) (here t)
                 (s .step .given .0 .0) (read s) (w .1 .given .0 .0) (sym n ∙ w .1 .given .1) (v .0 .left))
           ])
     ]
@@ -191,7 +192,7 @@ events-again c =
     let s = m .before .before .before in
     let a = s .before .before .before .before .before .before .before .before .before .before .before .args in
     rw (c .running .ensures)
-    (gone-on (a .bells) (a .track .now) (a .out .now) (m .match2 .out) (s .step .given .0 .0) (m .match2 .count) (gone m)
+    (gone-on (noteOn (a .bells)) (a .track .now) (a .out .now) (m .match2 .out) (s .step .given .0 .0) (m .match2 .count) (gone m)
     (sym (c .before .before .is-end .ensures) ∙ c .before .if5 .left))
 
 -- what is so where reading ends: a time of more than four bytes, or one that is cut short
@@ -199,26 +200,26 @@ long-time :
     (c : tie.Then1 Inv-loop μ-loop Inv-events μ-events)
     → let g = c .before .before in
     let a = g .before .before .before .args in
-    Done (a .bells) (a .track .now) (a .out .now) (g .events .out) (g .events .count) 16
+    Done (noteOn (a .bells)) (a .track .now) (a .out .now) (g .events .out) (g .events .count) 16
 long-time c =
     let l = c .before in
     let g = l .before in
     let a = g .before .before .before .args in
     let q = l .loop .inv .1 .1 in
-    head-broken (a .bells) (a .track .now) (a .out .now) (g .events .out) (g .events .running) (g .events .at) (g .events .count)
+    head-broken (noteOn (a .bells)) (a .track .now) (a .out .now) (g .events .out) (g .events .running) (g .events .at) (g .events .count)
     (g .events .inv) (passed-out (a .track .now) (g .events .at) (q .0) (l .loop .at) (l .loop .left) (q .1) (omega arith))
 
 cut-time :
     (c : tie.Then2 Inv-loop μ-loop Inv-events μ-events)
     → let g = c .before .before .before in
     let a = g .before .before .before .args in
-    Done (a .bells) (a .track .now) (a .out .now) (g .events .out) (g .events .count) 16
+    Done (noteOn (a .bells)) (a .track .now) (a .out .now) (g .events .out) (g .events .count) 16
 cut-time c =
     let l = c .before .before in
     let g = l .before in
     let a = g .before .before .before .args in
     let q = l .loop .inv .1 .1 in
-    head-broken (a .bells) (a .track .now) (a .out .now) (g .events .out) (g .events .running) (g .events .at) (g .events .count)
+    head-broken (noteOn (a .bells)) (a .track .now) (a .out .now) (g .events .out) (g .events .running) (g .events .at) (g .events .count)
     (g .events .inv) (passed-cut (a .track .now) (g .events .at) (q .0) (l .loop .at) (l .loop .left) (q .1) (omega arith))
 
 -- a broken event, and one outside the bells
@@ -226,7 +227,7 @@ broken-event :
     (c : tie.After-enum-told Inv-loop μ-loop Inv-events μ-events)
     → let g = c .before .before .before .before .before .before .before .before in
     let a = g .before .before .before .args in
-    Done (a .bells) (a .track .now) (a .out .now) (g .events .out) (g .events .count) 16
+    Done (noteOn (a .bells)) (a .track .now) (a .out .now) (g .events .out) (g .events .count) 16
 broken-event c =
     let e = c .before .before in
     let t = e .before in
@@ -234,14 +235,14 @@ broken-event c =
     let g = l .before in
     let a = g .before .before .before .args in
     let ev = g .events in
-    here-broken (a .bells) (a .track .now) (a .out .now) (ev .out) (ev .running) (l .loop .at + 1) (ev .count) (here t)
+    here-broken (noteOn (a .bells)) (a .track .now) (a .out .now) (ev .out) (ev .running) (l .loop .at + 1) (ev .count) (here t)
     (sym (e .event-at .ensures) ∙ c .enum-told .given .1)
 
 outside-bells :
     (c : tie.After-enum-told2 Inv-loop μ-loop Inv-events μ-events)
     → let g = c .before .before .before .before .before .before .before .before .before .before .before .before in
     let a = g .before .before .before .args in
-    Done (a .bells) (a .track .now) (a .out .now) (g .events .out) (g .events .count) 17
+    Done (noteOn (a .bells)) (a .track .now) (a .out .now) (g .events .out) (g .events .count) 17
 outside-bells c =
     let n = c .before .before in
     let s = n .before .before in
@@ -250,7 +251,7 @@ outside-bells c =
     let g = l .before in
     let a = g .before .before .before .args in
     let ev = g .events in
-    here-outside (a .bells) (a .track .now) (a .out .now) (ev .out) (ev .running) (l .loop .at + 1) (ev .count) (here t)
+    here-outside (noteOn (a .bells)) (a .track .now) (a .out .now) (ev .out) (ev .running) (l .loop .at + 1) (ev .count) (here t)
     (s .step .given .0 .0) (read s) (sym (n .note-of .ensures) ∙ c .enum-told2 .given .1)
 
 -- an end of track
@@ -258,12 +259,12 @@ closed :
     (c : tie.After-closing Inv-loop μ-loop Inv-events μ-events)
     → let m = c .before .before .before in
     let a = m .before .before .before .before .before .before .before .before .before .before .before .before .before .before .args in
-    Done (a .bells) (a .track .now) (a .out .now) (m .match2 .out) (m .match2 .count) (number (c .closing .result))
+    Done (noteOn (a .bells)) (a .track .now) (a .out .now) (m .match2 .out) (m .match2 .count) (number (c .closing .result))
 closed c =
     let m = c .before .before .before in
     let s = m .before .before .before in
     let a = s .before .before .before .before .before .before .before .before .before .before .before .args in
-    gone-end (a .bells) (a .track .now) (a .out .now) (m .match2 .out) (s .step .given .0 .0) (m .match2 .count) (gone m)
+    gone-end (noteOn (a .bells)) (a .track .now) (a .out .now) (m .match2 .out) (s .step .given .0 .0) (m .match2 .count) (gone m)
     (sym (c .before .before .is-end .ensures) ∙ c .before .if5 .taken) (number (c .closing .result)) (c .closing .ensures)
 
 same-length : tie.Need-same-length Inv-loop μ-loop Inv-events μ-events

@@ -10,13 +10,13 @@ use Rattle.midi_file.specs.declared.Bells.{Bells}
 use Rattle.midi_file.specs.declared.event.Event.{Event}
 use Rattle.midi_file.specs.declared.event.Event.the-variants.{Message, Exclusive, Meta}
 use Rattle.midi_file.specs.declared.note.Note.the-variants.{Silent}
-use Rattle.midi_file.specs.Strokes.{noteOf}
+use Rattle.midi_file.specs.Strokes.{noteOn, noteOf}
 use Rattle.midi_file.proofs.event.Event.{the-type}
 use Rattle.midi_file.proofs.note.note_of.Statement.{statement}
 use Rattle.midi_file.proofs.note.note_of.Tie as tie
 
 -- what is no channel message is silent
-no-message : (bells : Bells) (event : Event) → OneOf (1 ∷ 2 ∷ []) (tagOf the-type event) → Silent ≡ noteOf bells event
+no-message : (bells : Bells) (event : Event) → OneOf (1 ∷ 2 ∷ []) (tagOf the-type event) → Silent ≡ noteOf (noteOn bells) event
 no-message bells (Message status key velocity) k = absurd (miss (1 ∷ 2 ∷ []) 0 tt k)
 no-message bells Exclusive k = refl
 no-message bells (Meta type n) k = refl

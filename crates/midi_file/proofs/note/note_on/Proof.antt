@@ -8,11 +8,11 @@ use Rattle.midi_file.proofs.note.note_on.Tie as tie
 
 returns : tie.Need-returns
 unfolding noteOn
-returns c = elim (c .if1 .came) [ inl q ↦ search tests | inr q ↦ search (tests, ltb-true) ]
+returns c = search tests
 
 returns-2 : tie.Need-returns-2
 unfolding noteOn
-returns-2 c = search (tests, ltb-false)
+returns-2 c = elim (c .if2 .came) [ inl q ↦ search tests | inr q ↦ search (tests, ltb-true) ]
 
 returns-3 : tie.Need-returns-3
 unfolding noteOn
