@@ -130,7 +130,7 @@ fn read_track(track: &[u8], bells: Bells, out: &mut [u8]) -> Reading
 }
 
 // Reads a file: the keys of its notes that sound go to the front of the buffer. Refusals: 15 no header or no track, 16 broken, 17 a key
-// outside the bells, 7 no space.
+// struck outside the bells, 7 no space.
 pub fn read(file: &[u8], bells: Bells, out: &mut [u8]) -> Reading
     ensures verdict { λ r. ⌜ number (r .verdict) ≡ readRefusal (noteOn bells) (now (file .entry)) (now (out .entry)) ⌝ }
     ensures count { λ r. ⌜ r .count ≡ readCount (noteOn bells) (now (file .entry)) (now (out .entry)) ⌝ }
