@@ -425,6 +425,8 @@ RACK_CASES = [
     (THREE, (0, "stage 2 held", 2), (0, "stage 2 step", 2)),
     (THREE, (0, "stage 2 held", 4), (0, "stage 2 last", 3)),
     (THREE, (0, "stage 2 step print", P - 1)), (THREE, (0, "stage 2 step print", P)),
+    (THREE, (0, "stage 2 step print", P - 1), (0, "stage 2 F_last", P - 3)),
+    (THREE, (0, "stage 2 F_first", P - 1), (0, "stage 2 F_last", 2)),
     (THREE, (2, "stage 3 held", 1)), (THREE, (2, "stage 4 held", 1)),
     (THREE, (2, "stage 4 F_last", 1)),
     (THREE, (3, "name", 1)), (THREE, (3, "since", 1)), (THREE, (3, "length", 1)),

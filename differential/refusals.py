@@ -1,4 +1,4 @@
-"""Refusals, by the sentences of document 01 and of requests A.4 and A.5 of document 02: what
+"""Refusals, by the sentences of document 01 and of requests A.4, A.5 and A.7 of document 02: what
 every call says of a value or a record; and the cases of refusals that the program
 refusal_trials tries.
 
@@ -7,6 +7,8 @@ A value is a dict from the words of document 01 to numbers: "length", "key" and
 half-made card; "t", "F_t" and "stage 0 held" to "stage 19 step print" of a watch.
 A case names the numbers that are replaced.
 """
+
+from functools import lru_cache
 
 from card import (CARD_KIND, KIND, LARGEST_KEY, LONGEST_PASSAGE, MISFIT, P, SHORT,
                   SMALLEST_KEY, SPENT, Refusal, field, fingerprint, make_card, number,
@@ -74,7 +76,18 @@ def half_misfits(value):
                for i, length in enumerate(lengths) if value["taken"] < length)
 
 
-def stage_misfits(stage, t, youngest, oldest):
+@lru_cache(maxsize=1000)
+def last_print(key, held, f_first, step, step_print):
+    """The F_last of a stage that holds two or more."""
+    # A.7: "a stage with two or more held starts must have the F_last that comes out of F_first
+    # by held - 1 joins of the step print, else it is a misfit (10), in values handed in too."
+    power = pow(key, step, P)
+    for _ in range(held - 1):
+        f_first = (f_first * power + step_print) % P
+    return f_first
+
+
+def stage_misfits(stage, key, t, youngest, oldest):
     """A stage of which a listed start is from `youngest` to `oldest` bytes back."""
     held, first, f_first, last, f_last, step, step_print = stage
     # "Held 0: the other six are 0."
@@ -89,7 +102,10 @@ def stage_misfits(stage, t, youngest, oldest):
     if held > 1 and (step == 0 or last != first + (held - 1) * step):
         return True
     # "a listed first or last with t - start outside |P_i| .. |P_(i+1)| - 1"
-    return not all(youngest <= t - start <= oldest for start in (first, last))
+    if not all(youngest <= t - start <= oldest for start in (first, last)):
+        return True
+    # Here held is at most oldest, so that its joins are soon made.
+    return held > 1 and f_last != last_print(key, held, f_first, step, step_print)
 
 
 def watch_misfits(value):
@@ -105,7 +121,7 @@ def watch_misfits(value):
         if i >= len(lengths) - 1:
             if any(stage):                      # "a stage past k-1 that isn't all 0"
                 return True
-        elif stage_misfits(stage, t, lengths[i], lengths[i + 1] - 1):
+        elif stage_misfits(stage, value["key"], t, lengths[i], lengths[i + 1] - 1):
             return True
     return False
 
@@ -217,12 +233,15 @@ def plain_card(m):
     return make_card(bytes([1]) * m, 2)
 
 
-def card_of(m):
-    card = plain_card(m)
+def value_of(card):
     value = {"length": card.m, "key": card.key}
     for i in range(PRINTS):
         value[print_name(i)] = card.prints[i] if i < len(card.prints) else 0
     return value
+
+
+def card_of(m):
+    return value_of(plain_card(m))
 
 
 def half_made(m, taken):
@@ -238,7 +257,7 @@ def half_made(m, taken):
 
 def stored(ladder):
     """What a watch stores of the ladder with unlimited lists."""
-    value = dict(card_of(ladder.card.m), **{"t": ladder.t, "F_t": ladder.F[-1]})
+    value = dict(value_of(ladder.card), **{"t": ladder.t, "F_t": ladder.F[-1]})
     for i in range(STAGES):
         stage = list(ladder.stages[i]) if i < ladder.k else []
         fields = [0] * 7
@@ -454,6 +473,11 @@ WATCHES = [
     (("stage 2 held", 2), ("stage 2 step", 2)), (("stage 2 held", 2), ("stage 2 last", 1)),
     (("stage 2 F_first", P - 1),), (("stage 2 F_first", P),), (("stage 2 F_last", P - 1),),
     (("stage 2 F_last", P),), (("stage 2 step print", P - 1),), (("stage 2 step print", P),),
+    # The same prints, with which F_last follows: twice doubled and 2 added under key 2, or thrice
+    # the step print.
+    (("stage 2 F_first", P - 1), ("stage 2 F_last", 2)),
+    (("stage 2 F_first", (P - 7) * pow(4, -1, P) % P), ("stage 2 F_last", P - 1)),
+    (("stage 2 step print", P - 1), ("stage 2 F_last", P - 3)),
     (("stage 2 held", 4), ("stage 2 last", 3)), (("stage 1 held", 3), ("stage 1 first", 2)),
     (("stage 1 last", 3), ("stage 1 step", 0)),
     (("stage 2 held", 2147483650), ("stage 2 step", 2)),
@@ -526,7 +550,8 @@ def watch_case(lines, m, taken, changes):
 
 def span_case(lines, m, i, t, held, first, last, step):
     watch = dict(watch_of(m, 0), **{"t": t, "F_t": LATE_PRINT})
-    for name, what in zip(FIELDS, [held, first, LATE_PRINT, last, LATE_PRINT, step, 0]):
+    # Prints of 0, so that F_last follows whatever is held.
+    for name, what in zip(FIELDS, [held, first, 0, last, 0, step, 0]):
         watch[stage_name(i, name)] = what
     lines.say("watch of %d at %d, stage %d lists %d from %d to %d by %d"
               % (m, t, i, held, first, last, step), *strikes(watch), *parkings(watch))
@@ -755,28 +780,38 @@ def limits(lines):
 SCANNED = 12
 
 
+# A scan notes what each byte has to report in a lent list: five numbers for a ring or a set. It takes a byte only where the list has
+# room for a ring and twenty sets behind the notes before it.
+NOTE, ONE_BYTE = 5, 5 * 21
+LISTS = [0, ONE_BYTE - 1, ONE_BYTE, ONE_BYTE + 4, ONE_BYTE + NOTE, ONE_BYTE + 12 * NOTE]
+
+
 def scans(lines):
-    """Bytes in one call: until one has something to report, none is left or one is refused."""
+    """Bytes in one call: until the list is full, none is left or one is refused."""
     for m in (1, 2, 16):
         for t in (PAST_NARROW - 6, PAST_NARROW - 1, LAST_T - 6, LAST_T):
             for byte in (0, 1):
-                scan(lines, m, t, byte)
+                scan(lines, m, t, byte, ONE_BYTE, "")
+    for m, t in ((1, PAST_NARROW - 6), (2, PAST_NARROW - 6), (1, LAST_T - 6), (1, LAST_T), (1, LAST_T + 1)):
+        for numbers in LISTS:
+            scan(lines, m, t, 1, numbers, " into %d numbers" % numbers)
 
 
-def scan(lines, m, t, byte):
-    ladder, total, rung, sets = late_ladder(plain_card(m), t), 0, None, []
-    refusal = 0
-    while ladder.t - t < SCANNED and rung is None and not sets and not refusal:
+def scan(lines, m, t, byte, numbers, lent):
+    ladder, total, rings = late_ladder(plain_card(m), t), 0, []
+    refusal = first_of((watch_misfits(late_watch(m, t, 0)), MISFIT), (numbers < ONE_BYTE, NO_SPACE))
+    while ladder.t - t < SCANNED and NOTE * len(rings) + ONE_BYTE <= numbers and not refusal:
         try:
             rung, sets, comparisons = ladder.take(byte)
             total += comparisons
+            rings += [] if rung is None else [rung]
+            assert not sets
         except Refusal as met:
             refusal = met.number
-    assert not sets
     lines.met.append(refusal)
-    print("scan of %d bytes %d, watch of %d at %d: %d, next %d, t %d%s, comparisons %d"
-          % (SCANNED, byte, m, t, refusal, ladder.t - t, ladder.t,
-             "" if rung is None else ", rings %d" % rung, total))
+    print("scan of %d bytes %d%s, watch of %d at %d: %d, next %d, t %d%s, comparisons %d"
+          % (SCANNED, byte, lent, m, t, refusal, ladder.t - t, ladder.t,
+             "".join(", rings %d" % rung for rung in rings), total))
 
 
 # ---- Ends ----------------------------------------------------------------------

@@ -5,12 +5,12 @@ use mathlib.Core.List.{List, [], _∷_, List·Memᴰ, List·Memᴰ·head, List·
 use lib.Dec.{eqb}
 use borrow.Author.Tests.{eqb-true}
 use Rattle.lists.proofs.Laws.{and-left, and-right}
-use Rattle.fingerprint.specs.Fingerprint.{keyFits, printFits, same, extended, isBytePrint}
+use Rattle.fingerprint.specs.Fingerprint.{keyFits, printFits, same, extended, isBytePrint, joinedTimes}
 use Rattle.ladder.specs.Prefix.{leastFrom, levels}
 use Rattle.ladder.specs.Ladder.{lists, without, lastOf, enter, promote, compare, visit, descend, step, after, answerAt}
 use Rattle.lists.specs.Lists.{every, tabulate}
 use Rattle.signature.specs.Signature.{printsFit, signatureFits, signatureOf}
-use Rattle.stage.specs.Stage.{noneFits, oneFits, manyFit, stageFits, takenOff, entered}
+use Rattle.stage.specs.Stage.{noneFits, oneFits, manyFit, shapeFits, lastFits, stageFits, takenOff, entered}
 use Rattle.matcher.specs.Matcher.{matcherFits, fresh}
 use Rattle.matcher.specs.Stroke.{promotedUnder, tried, visited, descended, walkedFrom, strokeAnswer, afterStroke}
 use Rattle.edge_cases.specs.EdgeCases.{Case, struckRing, sameBytes, cases}
@@ -32,5 +32,5 @@ each-holds (List·Memᴰ·tail {x = d} {xs = more} m) h =
 
 -- Every case of the list holds.
 pub cases-hold : (c : Case) → List·Memᴰ c cases → c .got ≡ c .want
-unfolding allHold cases struckRing sameBytes keyFits printFits same extended isBytePrint leastFrom levels lists without lastOf enter promote compare visit descend step after answerAt every tabulate printsFit signatureFits signatureOf noneFits oneFits manyFit stageFits matcherFits fresh takenOff entered promotedUnder tried visited descended walkedFrom strokeAnswer afterStroke
+unfolding allHold cases struckRing sameBytes keyFits printFits same extended isBytePrint leastFrom levels lists without lastOf enter promote compare visit descend step after answerAt every tabulate printsFit signatureFits signatureOf noneFits oneFits manyFit shapeFits lastFits joinedTimes stageFits matcherFits fresh takenOff entered promotedUnder tried visited descended walkedFrom strokeAnswer afterStroke
 cases-hold c m = each-holds m refl

@@ -164,6 +164,14 @@ fp-cut key u v =
     ap (λ (f : Fingerprint). rest key f (fp key u) (length v)) (fp-join key u v)
     ∙ by-value _ _ (cut-back (fp key u .value * key .r ^ length v) (fp key v .value) (fp-below key v .below))
 
+-- what is left of f when w is cut off, behind w
+put-back : (w f : ℕ) → f < p → (w + (f + (p - w % p)) % p) % p ≡ f
+put-back w f h = omega arith
+
+-- What is left when the front is cut off, joined to the front again.
+pub join-rest : (key : Key) (uv u : Fingerprint) (n : ℕ) → Below uv → joined key u (rest key uv u n) n ≡ uv
+join-rest key uv u n h = by-value _ _ (put-back (u .value * key .r ^ n) (uv .value) (h .below))
+
 -- Powers: joining and cutting by one, the product of two and the square of one.
 pub join-by : (key : Key) (u v : Fingerprint) (n : ℕ) → joinedBy (power key n) u v ≡ joined key u v n
 join-by key u v n = by-value _ _ (mul-mod-add p (u .value) (key .r ^ n) (v .value))

@@ -2,3 +2,4 @@ pub mod Modular
 pub mod Powers
 pub mod Laws
 pub mod Behind
+pub mod Joins

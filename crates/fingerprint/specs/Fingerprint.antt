@@ -1,6 +1,6 @@
 -- Karp-Rabin fingerprints (document 01, "Fingerprints"; the value of a byte: document 02, A.4). The bytes of a block are a list of numbers.
 -- What a key, a fingerprint or a power holds is known to this crate alone: others use the words below and the laws of proofs/Laws.antt.
-use Prim.Native.Nat.{ℕ, _+_, _-_, _*_, _^_, _%_, _<_}
+use Prim.Native.Nat.{ℕ, zero, suc, _+_, _-_, _*_, _^_, _%_, _<_}
 use mathlib.Core.Bool.{Bool, _&&_}
 use mathlib.Core.List.{List, [], _∷_}
 use lib.ListN.{getD}
@@ -78,6 +78,11 @@ joined key u v n = record { value = (u .value * key .r ^ n + v .value) % p }
 
 abbrev pub joinedBy : Power → Fingerprint → Fingerprint → Fingerprint
 joinedBy shift u v = record { value = (u .value * shift .value + v .value) % p }
+
+-- So many joins of the same block v of n bytes, one after another.
+unfoldable pub joinedTimes : Key → ℕ → Fingerprint → Fingerprint → ℕ → Fingerprint
+joinedTimes key zero u v n = u
+joinedTimes key (suc times) u v n = joined key (joinedTimes key times u v n) v n
 
 -- "So fp(v) comes from fp(uv), fp(u) and |v|": what is left when the front u is cut off; and the same from r^|v|.
 abbrev pub rest : Key → Fingerprint → Fingerprint → ℕ → Fingerprint

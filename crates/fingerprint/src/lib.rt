@@ -1,11 +1,13 @@
 // Karp-Rabin fingerprints of byte blocks (document 01, "Fingerprints"; the value of a byte by document 02, A.4).
 ghost use mathlib.Core.Path.{_≡_};
+ghost use Prim.Native.Nat.{ℕ};
 ghost use Rattle.fingerprint.specs.Fingerprint.{
   empty,
   valueOf,
   pushed,
   joined,
   joinedBy,
+  joinedTimes,
   rest,
   restBy,
   power,
@@ -198,6 +200,29 @@ impl Fingerprint {
         Self {
             value: (sum % Self::P) as u32,
         }
+    }
+
+    // The fingerprint of the block followed by another one so many times, where `shift` is r to the length of the other. Each turn halves the
+    // times left and joins the other to itself.
+    pub fn join_times(self, other: Fingerprint, shift: Power, times: u32) -> Self
+        ensures { λ f. ⌜ ((key : Key) (n : ℕ) → shift ≡ power key n → f ≡ joinedTimes key times self other n) ⌝ }
+    {
+        if times == 0 {
+            return self;
+        }
+        let mut front = self;
+        let mut block = other;
+        let mut length = shift; // r to the length of the block
+        let mut many = times;
+        while 1 < many {
+            if many % 2 == 1 {
+                front = front.join_by(block, length);
+            }
+            block = block.join_by(block, length);
+            length = length.squared();
+            many = many / 2;
+        }
+        front.join_by(block, length)
     }
 
     // The fingerprint of the block's last `length` bytes, where `front` is the fingerprint of the bytes before them.

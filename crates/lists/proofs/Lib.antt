@@ -3,3 +3,4 @@ pub mod Tests
 pub mod Cases
 pub mod Stores
 pub mod Choices
+pub mod Storing

@@ -1,12 +1,13 @@
 pub mod Sound
 pub mod FreshFits
-pub mod StrokeFits
+pub mod Readings
 pub mod Visits
+pub mod WalkFollows
+pub mod StrokeFits
 pub mod Ceiling
 pub mod Rounds
-pub mod Doubling
-pub mod SharedPowers
 pub mod Quiet
+mod Noting
 mod Skipping
 pub mod Shared
 pub mod Running

@@ -3,14 +3,15 @@
 use Prim.Native.Nat.{ℕ, zero, suc, _+_, _-_, _≤_, _<_}
 use mathlib.Core.Path.{_≡_, refl, sym, _∙_, ap}
 use mathlib.Core.Bool.{true, false, cond, true≢false}
-use mathlib.Core.List.{List, [], _∷_}
+use mathlib.Core.List.{List, [], _∷_, _++_, flatMap}
 use native.Mathlib.Decide.{ℕ-discrete}
+use native.Mathlib.Nat.{add-zero}
 use native.Mathlib.Numerals.{add-one}
 use native.Mathlib.Omega.{arith}
 use lib.Dec.{eqb}
 use lib.ListN.{length, drop, getD}
 use lib.Seq.{drop-cons}
-use borrow.Author.Tests.{eqb-false, ne-eqb, lt-ltb}
+use borrow.Author.Tests.{eqb-true, eqb-false, ne-eqb, lt-ltb, le-leb}
 use Rattle.fingerprint.specs.declared.Key.{Key}
 use Rattle.fingerprint.specs.declared.Fingerprint.{Fingerprint}
 use Rattle.fingerprint.specs.Fingerprint.{same, empty, rest, bytePrint}
@@ -18,17 +19,21 @@ use Rattle.fingerprint.proofs.Laws.{same-eq, eq-same, one-byte}
 use Rattle.ladder.specs.Prefix.{levels, prefixLength}
 use Rattle.ladder.proofs.Levels.{length-positive}
 use Rattle.lists.proofs.Cases.{by-test}
+use Rattle.lists.proofs.Laws.{and-left, and-right}
 use Rattle.stage.specs.declared.Mark.{Mark}
 use Rattle.stage.specs.declared.Stage.{Stage}
 use Rattle.stage.specs.Stage.{maxTaken, quietUntil}
 use Rattle.stage.proofs.Moves.{quiet-most, quiet-before}
 use Rattle.stage.specs.Stages.{Stages, stageAt}
 use Rattle.matcher.specs.declared.Matcher.{Matcher}
+use Rattle.matcher.specs.declared.Ring.{Ring}
+use Rattle.matcher.specs.declared.Ring.the-variants.{Silent, At}
+use Rattle.matcher.specs.declared.Answer.{Answer}
 use Rattle.matcher.specs.declared.Walk.{Walk}
 use Rattle.matcher.specs.declared.Round.{Round}
 use Rattle.matcher.specs.Matcher.{matcherFits, moved}
 use Rattle.matcher.specs.Stroke.{noAnswer, compared, nextMark, matches, tried, ripe, descended, walkedFrom, walked, strokeRefusal, strokeAnswer, afterStroke}
-use Rattle.matcher.specs.Scan.{Scanned, onward, scanned}
+use Rattle.matcher.specs.Scan.{silentRing, silent, ringNotes, notesOf, noteRoom, Scanned, onward, scanned}
 use Rattle.matcher.specs.Skip.{isFirst, skipped, Unripe}
 use Rattle.matcher.proofs.StrokeFits.{stroke-fits}
 use Rattle.matcher.proofs.Visits.{visit-unripe}
@@ -81,28 +86,39 @@ module _ (key : Key) (first : Fingerprint) (input : List ℕ) (mark : Mark) wher
 abbrev pub movedOn : Matcher → Mark → Matcher
 movedOn w now = moved w now (w .stages)
 
--- where a run ends of which n bytes, with c comparisons, were taken before
-abbrev pub ahead : ℕ → ℕ → Scanned → Scanned
-ahead c n r =
+-- an answer with no ring and no set has no notes
+silent-ring : (t : ℕ) (ring : Ring) → silentRing ring ≡ true → ringNotes t ring ≡ []
+silent-ring t Silent e = refl
+silent-ring t (At start) e = absurd (true≢false (sym e))
+
+pub silent-notes : (t : ℕ) (a : Answer) → silent a ≡ true → notesOf t a ≡ []
+unfolding notesOf flatMap
+silent-notes t a e =
+    rw (silent-ring t (a .ring) (and-left (silentRing (a .ring)) _ e), eqb-true (a .asides) 0 (and-right (silentRing (a .ring)) _ e))
+
+-- where a run ends of which n bytes, with these notes and c comparisons, were taken before
+abbrev pub ahead : List ℕ → ℕ → ℕ → Scanned → Scanned
+ahead notes c n r =
     record {
       matcher = r .matcher;
-      answer = r .answer;
+      notes = notes ++ r .notes;
       comparisons = c + r .comparisons;
       taken = n + r .taken;
       refusal = r .refusal;
     }
 
-pub scanned-by : {r s : Scanned} → r .matcher ≡ s .matcher → r .answer ≡ s .answer → r .comparisons ≡ s .comparisons → r .taken ≡ s .taken → r .refusal ≡ s .refusal → r ≡ s
-scanned-by m a c t f = λ i. record { matcher = m i; answer = a i; comparisons = c i; taken = t i; refusal = f i }
+pub scanned-by : {r s : Scanned} → r .matcher ≡ s .matcher → r .notes ≡ s .notes → r .comparisons ≡ s .comparisons → r .taken ≡ s .taken → r .refusal ≡ s .refusal → r ≡ s
+scanned-by m a c t f = λ i. record { matcher = m i; notes = a i; comparisons = c i; taken = t i; refusal = f i }
 
--- What passing over bytes comes to: so many bytes are taken, with a comparison each, and the watch has moved.
-pub record Skips (w : Matcher) (n : ℕ) (bytes : List ℕ) (now : Mark) : Type 0 where
+-- What passing over bytes comes to, where there is room for notes behind the numbers used: so many bytes are taken, with a comparison each and no
+-- note, and the watch has moved.
+pub record Skips (size used : ℕ) (w : Matcher) (n : ℕ) (bytes : List ℕ) (now : Mark) : Type 0 where
   pub taken : ℕ
   pub most : taken ≤ n
   pub short : taken ≤ length bytes
   pub moves : now .at ≡ w .now .at + taken
   pub fits : matcherFits (movedOn w now) ≡ true
-  pub same : scanned w bytes ≡ ahead taken taken (scanned (movedOn w now) (drop taken bytes))
+  pub same : scanned size used w bytes ≡ ahead [] taken taken (scanned size used (movedOn w now) (drop taken bytes))
 
 -- The byte b, at which no start is ripe, and which is not P_0.
 module _ (w : Matcher) (b : ℕ) (fits : matcherFits w ≡ true) (room : w .now .at < maxTaken) (unripe : Calm w (suc (w .now .at)))
@@ -145,20 +161,23 @@ module _ (w : Matcher) (b : ℕ) (fits : matcherFits w ≡ true) (room : w .now 
   pub quiet-fits : matcherFits (movedOn w next) ≡ true
   quiet-fits = rw quiet-after at (stroke-fits w b taken)
 
-  pub quiet-scanned : (bytes : List ℕ) → scanned w (b ∷ bytes) ≡ onward 1 (scanned (movedOn w next) bytes)
-  unfolding scanned
-  quiet-scanned bytes = rw (taken, quiet-answer, quiet-after)
+  module _ (size used : ℕ) (noted : used + noteRoom ≤ size) where
+    quiet-scanned : (bytes : List ℕ) → scanned size used w (b ∷ bytes) ≡ onward [] 1 (scanned size used (movedOn w next) bytes)
+    unfolding scanned
+    quiet-scanned bytes =
+        rw (le-leb (used + noteRoom) size noted, taken, quiet-answer, quiet-after, silent-notes (suc (w .now .at)) (compared noAnswer) refl, add-zero)
 
-  pub skip-one : (n : ℕ) (bytes : List ℕ) (now : Mark) → Skips (movedOn w next) n bytes now → Skips w (suc n) (b ∷ bytes) now
-  skip-one n bytes now q =
-      record {
-        taken = suc (q .taken);
-        most = omega arith;
-        short = omega arith;
-        moves = omega arith;
-        fits = q .fits;
-        same = quiet-scanned bytes ∙ ap (onward 1) (q .same) ∙ scanned-by refl refl (omega arith) (omega arith) refl;
-      }
+    pub skip-one :
+        (n : ℕ) (bytes : List ℕ) (now : Mark) → Skips size used (movedOn w next) n bytes now → Skips size used w (suc n) (b ∷ bytes) now
+    skip-one n bytes now q =
+        record {
+          taken = suc (q .taken);
+          most = omega arith;
+          short = omega arith;
+          moves = omega arith;
+          fits = q .fits;
+          same = quiet-scanned bytes ∙ ap (onward [] 1) (q .same) ∙ scanned-by refl refl (omega arith) (omega arith) refl;
+        }
 
 pub sooner : (w : Matcher) {t u : ℕ} → t ≤ u → Calm w u → Calm w t
 sooner w l f i b h = omega (arith, f i b h)
@@ -177,8 +196,8 @@ unripe-more k m stages {t} {u} low e f i b h =
       | no d ↦ omega (arith, f i (omega arith) h, quiet-most length u (stageAt stages k))
     ]
 
-pub no-skips : (w : Matcher) (n : ℕ) (bytes : List ℕ) → matcherFits w ≡ true → Skips w n bytes (w .now)
-no-skips w n bytes fits =
+pub no-skips : (size used : ℕ) (w : Matcher) (n : ℕ) (bytes : List ℕ) → matcherFits w ≡ true → Skips size used w n bytes (w .now)
+no-skips size used w n bytes fits =
     record {
       taken = 0;
       most = omega arith;
@@ -192,30 +211,31 @@ abbrev pub first : Matcher → Fingerprint
 first w = getD (w .signature .prints) 0 empty
 
 -- Passing over at most n of the bytes, from a watch at which no start becomes ripe on the way.
-abbrev SkipsAll : ℕ → List ℕ → Type 0
-SkipsAll n bytes =
-    (w : Matcher)
-    → matcherFits w ≡ true
-    → w .now .at + n ≤ maxTaken
-    → Calm w (w .now .at + n)
-    → Skips w n bytes (skipped (w .signature .key) (first w) n (w .now) bytes)
+module _ (size used : ℕ) (noted : used + noteRoom ≤ size) where
+  abbrev SkipsAll : ℕ → List ℕ → Type 0
+  SkipsAll n bytes =
+      (w : Matcher)
+      → matcherFits w ≡ true
+      → w .now .at + n ≤ maxTaken
+      → Calm w (w .now .at + n)
+      → Skips size used w n bytes (skipped (w .signature .key) (first w) n (w .now) bytes)
 
-skips-more : (n b : ℕ) (bytes : List ℕ) → SkipsAll n bytes → SkipsAll (suc n) (b ∷ bytes)
-unfolding skipped
-skips-more n b bytes more w fits room unripe =
-    by-test (isFirst (first w) b)
-    (λ e. rw e (no-skips w (suc n) (b ∷ bytes) fits))
-    (λ e.
-    let t : ℕ = w .now .at in
-    let below : t < maxTaken = omega arith in
-    let soon : Calm w (suc t) = sooner w (omega arith) unripe in
-    let later : Calm w (suc t + n) = sooner w (omega arith) unripe in
-    rw e
-    (skip-one w b fits below soon e n bytes _
-    (more (movedOn w (nextMark (w .signature .key) (w .now) b)) (quiet-fits w b fits below soon e) (omega arith) later)))
+  skips-more : (n b : ℕ) (bytes : List ℕ) → SkipsAll n bytes → SkipsAll (suc n) (b ∷ bytes)
+  unfolding skipped
+  skips-more n b bytes more w fits room unripe =
+      by-test (isFirst (first w) b)
+      (λ e. rw e (no-skips size used w (suc n) (b ∷ bytes) fits))
+      (λ e.
+      let t : ℕ = w .now .at in
+      let below : t < maxTaken = omega arith in
+      let soon : Calm w (suc t) = sooner w (omega arith) unripe in
+      let later : Calm w (suc t + n) = sooner w (omega arith) unripe in
+      rw e
+      (skip-one w b fits below soon e size used noted n bytes _
+      (more (movedOn w (nextMark (w .signature .key) (w .now) b)) (quiet-fits w b fits below soon e) (omega arith) later)))
 
-pub skips : (n : ℕ) (bytes : List ℕ) → SkipsAll n bytes
-unfolding skipped
-skips zero bytes = λ w fits room unripe. no-skips w zero bytes fits
-skips (suc n) [] = λ w fits room unripe. no-skips w (suc n) [] fits
-skips (suc n) (b ∷ bytes) = skips-more n b bytes (skips n bytes)
+  pub skips : (n : ℕ) (bytes : List ℕ) → SkipsAll n bytes
+  unfolding skipped
+  skips zero bytes = λ w fits room unripe. no-skips size used w zero bytes fits
+  skips (suc n) [] = λ w fits room unripe. no-skips size used w (suc n) [] fits
+  skips (suc n) (b ∷ bytes) = skips-more n b bytes (skips n bytes)

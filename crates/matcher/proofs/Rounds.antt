@@ -24,7 +24,7 @@ use Rattle.stage.specs.declared.Entry.{Entry}
 use Rattle.stage.specs.declared.Aside.{Aside}
 use Rattle.stage.specs.declared.Aside.the-variants.{Nothing, Set}
 use Rattle.stage.specs.Stage.{maxTaken, takenOff, entered, asideOf, ripeAt, takeOffOf, canEnter, entryOf}
-use Rattle.stage.specs.Stages.{stageCount, Stages, Whole, stageAt, withStage, stagesFit}
+use Rattle.stage.specs.Stages.{stageCount, Stages, Whole, stageAt, withStage, shapesFit}
 use Rattle.stage.proofs.Fit.{Fit, fit-of}
 use Rattle.stage.proofs.Room.{take-off-fits, fit-can-enter, enter-room}
 use Rattle.stage.proofs.Stages.{stage-with-other}
@@ -32,7 +32,7 @@ use Rattle.matcher.specs.declared.Answer.{Answer}
 use Rattle.matcher.specs.declared.Round.{Round}
 use Rattle.matcher.specs.declared.Walk.{Walk}
 use Rattle.matcher.specs.Stroke.{noAnswer, withAside, ringing, compared, ripe, matches, promotedUnder, tried, visited, descended, walkedFrom}
-use Rattle.matcher.specs.Skip.{Shifts}
+use Rattle.powers.specs.Powers.{Shifts}
 use Rattle.matcher.proofs.StrokeFits.{Midway, midway-begin, visited-midway}
 use Rattle.matcher.proofs.Visits.{with-aside, descend-one, visit-unripe, visit-dropped, visit-rung, visit-entered, visited-grows}
 
@@ -127,7 +127,7 @@ pub turn-begin :
     → 1 ≤ c .now .at
     → c .now .at ≤ maxTaken
     → Whole (before .stages)
-    → stagesFit (c .signature .length) (before-byte c) (before .stages) ≡ true
+    → shapesFit (c .signature .length) (before-byte c) (before .stages) ≡ true
     → before .answer ≡ noAnswer
     → Turn c shifts k k before before
 turn-begin c shifts before k last short begun late whole fits none =

@@ -3,74 +3,100 @@
 use Prim.Native.Nat.{ℕ, suc, _+_, _-_, _*_, _≤_, _<_, min}
 use mathlib.Core.Path.{_≡_, refl, sym, _∙_, ap}
 use mathlib.Core.Bool.{true, false}
-use mathlib.Core.List.{List, [], _∷_}
+use mathlib.Core.List.{List, [], _∷_, _++_, append-nil, append-assoc}
+use native.Mathlib.Nat.{zero-add}
 use native.Mathlib.Decide.{decLt}
 use native.Mathlib.Numerals.{add-one}
 use native.Mathlib.Omega.{arith}
-use lib.ListN.{length, drop, getD, drop-of-length-le}
-use lib.Seq.{drop-cons, drop-drop}
-use borrow.Author.Tests.{lt-ltb, le-ltb}
+use lib.ListN.{length, drop, getD, length-append, drop-of-length-le}
+use lib.Seq.{drop-cons, drop-drop, sets-eq}
+use borrow.Author.Tests.{lt-ltb, le-ltb, le-leb, lt-leb}
 use Rattle.ladder.specs.Prefix.{levels}
 use Rattle.ladder.proofs.Levels.{levels-bound}
+use Rattle.lists.specs.Stored.{Stored}
+use Rattle.lists.proofs.Storing.{nothing, run, at-most}
 use Rattle.signature.specs.Signature.{places}
-use Rattle.refusal.specs.declared.Refusal.the-variants.{Spent, Misfit}
+use Rattle.refusal.specs.declared.Refusal.the-variants.{Spent, NoSpace, Misfit}
 use Rattle.refusal.specs.Number.{number}
+use Rattle.refusal.specs.declared.Verdict.{Verdict}
 use Rattle.refusal.specs.declared.Verdict.the-variants.{Accepted, Refused}
 use Rattle.stage.specs.declared.Mark.{Mark}
 use Rattle.stage.specs.Stage.{maxTaken}
 use Rattle.matcher.specs.declared.Matcher.{Matcher}
-use Rattle.matcher.specs.declared.Answer.{Answer}
 use Rattle.matcher.specs.declared.Scan.{Scan}
 use Rattle.matcher.specs.Matcher.{matcherFits, moved}
-use Rattle.matcher.specs.Stroke.{noAnswer, nextMark, walked, strokeRefusal, strokeAnswer, afterStroke}
-use Rattle.matcher.specs.Scan.{Scanned, silent, scanned, scanOf}
-use Rattle.matcher.specs.Skip.{skipped, silentEnd, Ends}
+use Rattle.matcher.specs.Stroke.{nextMark, walked, strokeRefusal, strokeAnswer}
+use Rattle.matcher.specs.Scan.{Scanned, silent, notesOf, noteRoom, halted, scanned, scanOf}
+use Rattle.matcher.specs.Skip.{skipped, endOf, Ends}
 use Rattle.matcher.proofs.Sound.{sound, card-of, after-taken, answer-taken}
 use Rattle.matcher.proofs.StrokeFits.{stroke-fits}
 use Rattle.matcher.proofs.Ceiling.{ceiling}
-use Rattle.matcher.proofs.Quiet.{Calm, movedOn, first, ahead, scanned-by, Skips, no-skips, skips, sooner, skipped-none}
+use Rattle.matcher.proofs.Quiet.{Calm, movedOn, first, silent-notes, ahead, scanned-by, Skips, no-skips, skips, sooner, skipped-none}
 
--- The run at a place of the input: the watch fits, its comparisons are few, and what is left to take is taken by it.
-pub record Running (self : Matcher) (input : List ℕ) (from : ℕ) (w : Matcher) (at comparisons : ℕ) : Type 0 where
+-- without room nothing more is taken
+scanned-full : (size used : ℕ) (w : Matcher) (bytes : List ℕ) → size < used + noteRoom → scanned size used w bytes ≡ halted w 0
+unfolding scanned
+scanned-full size used w [] l = refl
+scanned-full size used w (byte ∷ bytes) l = rw (lt-leb (used + noteRoom) size l)
+
+-- The run at a place of the input and behind some notes: the watch fits, its comparisons are few, the notes stand at the list's front, and what is
+-- left to take is taken by it.
+pub record Running (self : Matcher) (input : List ℕ) (from : ℕ) (entry : List ℕ)
+    (w : Matcher) (at noted comparisons : ℕ) (exit : List ℕ) : Type 0 where
+  pub said : List ℕ
   pub fits : matcherFits w ≡ true
   pub room : w .now .at ≤ maxTaken
   pub begun : from ≤ at
   pub within : at ≤ length input
   pub few : comparisons + places * self .now .at ≤ places * w .now .at
-  pub same : scanned self (drop from input) ≡ ahead comparisons (at - from) (scanned w (drop at input))
+  pub stored : Stored entry 0 said (length entry) noted exit
+  pub same :
+      scanned (length entry) 0 self (drop from input)
+      ≡ ahead said comparisons (at - from) (scanned (length entry) noted w (drop at input))
 
-module _ (self : Matcher) (input : List ℕ) (from : ℕ) where
-  pub run-begin : matcherFits self ≡ true → from ≤ length input → Running self input from self from 0
+module _ (self : Matcher) (input : List ℕ) (from : ℕ) (entry : List ℕ) where
+  pub run-begin : matcherFits self ≡ true → from ≤ length input → Running self input from entry self from 0 0 entry
   run-begin fits inside =
       record {
+        said = [];
         fits = fits;
         room = sound self fits .within;
         begun = omega arith;
         within = inside;
         few = omega arith;
+        stored = at-most (omega arith) (nothing entry 0);
         same = scanned-by refl refl (omega arith) (omega arith) refl;
       }
 
-  module _ (w : Matcher) (at comparisons : ℕ) (q : Running self input from w at comparisons) where
+  module _ (w : Matcher) (at noted comparisons : ℕ) (exit : List ℕ) (q : Running self input from entry w at noted comparisons exit) where
+    -- where nothing more is taken
     ends :
-        (s : Scanned) (r : Scan)
-        → scanned w (drop at input) ≡ s
-        → r .matcher ≡ s .matcher
-        → r .answer ≡ s .answer
-        → r .comparisons ≡ comparisons + s .comparisons
-        → r .next ≡ at + s .taken
-        → number (r .verdict) ≡ s .refusal
-        → Ends from (scanned self (drop from input)) r
-    ends s r e m a c n v =
-        rw (q .same ∙ ap (ahead comparisons (at - from)) e)
-        (record { matcher = m; answer = a; comparisons = c; next = omega (arith, q .begun); verdict = v })
+        (verdict : Verdict)
+        → scanned (length entry) noted w (drop at input) ≡ halted w (number verdict)
+        → Ends from (scanned (length entry) 0 self (drop from input)) entry (endOf w noted comparisons at verdict) exit
+    ends verdict e =
+        rw (q .same ∙ ap (ahead (q .said) comparisons (at - from)) e, append-nil)
+        (record {
+          matcher = refl;
+          noted = omega (arith, q .stored .behind);
+          notes = q .stored .buffer ∙ sets-eq (q .said) entry 0 (omega (arith, q .stored .within)) ∙ rw zero-add;
+          comparisons = omega arith;
+          next = omega (arith, q .begun);
+          verdict = refl;
+        })
 
-    pub run-end : length input ≤ at → Ends from (scanned self (drop from input)) (silentEnd w comparisons at Accepted)
+    -- no byte is left, or there is no room for the notes of one more
+    pub run-end :
+        length input ≤ at → Ends from (scanned (length entry) 0 self (drop from input)) entry (endOf w noted comparisons at Accepted) exit
     unfolding scanned
-    run-end l =
-        ends (scanned w []) _ (ap (scanned w) (drop-of-length-le input l)) refl refl (omega arith) (omega arith) refl
+    run-end l = ends Accepted (ap (scanned (length entry) noted w) (drop-of-length-le input l))
 
-    module _ (inside : at < length input) where
+    pub run-full :
+        length entry < noted + noteRoom
+        → Ends from (scanned (length entry) 0 self (drop from input)) entry (endOf w noted comparisons at Accepted) exit
+    run-full l = ends Accepted (scanned-full (length entry) noted w (drop at input) l)
+
+    module _ (inside : at < length input) (roomy : noted + noteRoom ≤ length entry) where
       abbrev byte : ℕ
       byte = getD input at 0
 
@@ -78,11 +104,13 @@ module _ (self : Matcher) (input : List ℕ) (from : ℕ) where
       here = drop-cons input at 0 inside ∙ rw add-one
 
       pub run-spent :
-          maxTaken ≤ w .now .at → Ends from (scanned self (drop from input)) (silentEnd w comparisons at (Refused Spent))
+          maxTaken ≤ w .now .at
+          → Ends from (scanned (length entry) 0 self (drop from input)) entry (endOf w noted comparisons at (Refused Spent)) exit
       unfolding scanned
       run-spent l =
           let spent : strokeRefusal w ≡ 6 = rw (q .fits, le-ltb (w .now .at) maxTaken l) in
-          ends (record { matcher = w; answer = noAnswer; comparisons = 0; taken = 0; refusal = 6 }) _ (ap (scanned w) here ∙ rw spent) refl refl (omega arith) (omega arith) refl
+          ends (Refused Spent)
+          (ap (scanned (length entry) noted w) here ∙ rw (le-leb (noted + noteRoom) (length entry) roomy, spent))
 
       -- the byte is taken
       module _ (below : w .now .at < maxTaken) where
@@ -95,110 +123,130 @@ module _ (self : Matcher) (input : List ℕ) (from : ℕ) where
         answered : strokeAnswer w byte ≡ walked w byte .answer
         answered = answer-taken w byte accepted
 
-        pub run-report :
-            silent (walked w byte .answer) ≡ false
-            → Ends from (scanned self (drop from input))
-            (record {
-              matcher = after;
-              answer = walked w byte .answer;
-              comparisons = comparisons + walked w byte .answer .comparisons;
-              next = at + 1;
-              verdict = Accepted;
-            })
-        unfolding scanned
-        run-report e =
-            ends (record {
-              matcher = afterStroke w byte;
-              answer = strokeAnswer w byte;
-              comparisons = strokeAnswer w byte .comparisons;
-              taken = 1;
-              refusal = 0;
-            }) _ (ap (scanned w) here ∙ rw (accepted, answered, e)) (sym (after-taken w byte accepted)) (sym answered)
-            (ap (λ (a : Answer). comparisons + a .comparisons) (sym answered)) refl refl
-
         pub run-count : walked w byte .answer .comparisons ≤ places
         run-count =
             let count : strokeAnswer w byte .comparisons ≤ suc (levels (w .signature .length)) = ceiling w byte in
             omega (arith, rw answered at count, levels-bound (w .signature .length) (card-of (sound w (q .fits)) .short))
 
+        -- and its notes stand behind the others
         pub run-step :
-            silent (walked w byte .answer) ≡ true
-            → Running self input from after (at + 1) (comparisons + walked w byte .answer .comparisons)
+            (next : ℕ) (left : List ℕ)
+            → Stored exit noted (notesOf (suc (w .now .at)) (walked w byte .answer)) noteRoom next left
+            → Running self input from entry after (at + 1) next (comparisons + walked w byte .answer .comparisons) left
         unfolding scanned
-        run-step e =
+        run-step next left s =
+            let notes : List ℕ = notesOf (suc (w .now .at)) (walked w byte .answer) in
+            let both = run (q .stored) s in
             record {
+              said = q .said ++ notes;
               fits = rw (after-taken w byte accepted) at (stroke-fits w byte accepted);
               room = omega arith;
               begun = omega (arith, q .begun);
               within = omega arith;
               few = omega (arith, q .few, run-count);
+              stored =
+                  record {
+                    behind = both .behind;
+                    within = rw length-append (omega (arith, q .stored .behind, s .within));
+                    buffer = both .buffer;
+                  };
               same =
                   q .same
-                  ∙ ap (λ l. ahead comparisons (at - from) (scanned w l)) here
-                  ∙ rw (accepted, answered, e, after-taken w byte accepted)
-                  (scanned-by refl refl (omega arith) (omega (arith, q .begun)) refl);
+                  ∙ ap (λ l. ahead (q .said) comparisons (at - from) (scanned (length entry) noted w l)) here
+                  ∙ rw (le-leb (noted + noteRoom) (length entry) roomy, accepted, answered, after-taken w byte accepted, ← s .behind)
+                  (scanned-by refl (sym (append-assoc (q .said) notes _)) (omega arith) (omega (arith, q .begun)) refl);
             }
 
+        pub run-silent :
+            silent (walked w byte .answer) ≡ true
+            → Running self input from entry after (at + 1) noted (comparisons + walked w byte .answer .comparisons) exit
+        run-silent e =
+            run-step noted exit (rw (silent-notes (suc (w .now .at)) (walked w byte .answer) e) (at-most (omega arith) (nothing exit noted)))
+
     -- bytes were passed over
-    run-passed :
-        (until n : ℕ) (r : Mark)
-        → until ≤ maxTaken
-        → n ≤ until - w .now .at
-        → n ≤ length input - at
-        → (s : Skips w n (drop at input) r)
-        → Running self input from (movedOn w r) (at + (r .at - w .now .at)) (comparisons + (r .at - w .now .at))
-    run-passed until n r low soon inside s =
-        let taken : r .at - w .now .at ≡ s .taken = omega (arith, s .moves) in
-        rw taken
-        (record {
-          fits = s .fits;
-          room = omega (arith, q .room, s .moves, s .most);
-          begun = omega (arith, q .begun);
-          within = omega (arith, q .within, s .most);
-          few = omega (arith, q .few, s .moves);
-          same =
-              q .same
-              ∙ ap (ahead comparisons (at - from)) (s .same)
-              ∙ rw drop-drop (scanned-by refl refl (omega arith) (omega (arith, q .begun)) refl);
-        })
+    module _ (roomy : noted + noteRoom ≤ length entry) where
+      run-passed :
+          (until n : ℕ) (r : Mark)
+          → until ≤ maxTaken
+          → n ≤ until - w .now .at
+          → n ≤ length input - at
+          → (s : Skips (length entry) noted w n (drop at input) r)
+          → Running self input from entry (movedOn w r) (at + (r .at - w .now .at)) noted (comparisons + (r .at - w .now .at)) exit
+      run-passed until n r low soon inside s =
+          let taken : r .at - w .now .at ≡ s .taken = omega (arith, s .moves) in
+          rw taken
+          (record {
+            said = q .said;
+            fits = s .fits;
+            room = omega (arith, q .room, s .moves, s .most);
+            begun = omega (arith, q .begun);
+            within = omega (arith, q .within, s .most);
+            few = omega (arith, q .few, s .moves);
+            stored = q .stored;
+            same =
+                q .same
+                ∙ ap (ahead (q .said) comparisons (at - from)) (s .same)
+                ∙ rw drop-drop (scanned-by refl refl (omega arith) (omega (arith, q .begun)) refl);
+          })
 
-    pub run-skip :
-        (until : ℕ) → until ≤ maxTaken → Calm w until
-        → (r : Mark) → r ≡ skipped (w .signature .key) (first w) (min (until - w .now .at) (length input - at)) (w .now) (drop at input)
-        → Running self input from (movedOn w r) (at + (r .at - w .now .at)) (comparisons + (r .at - w .now .at))
-    run-skip until low unripe r e =
-        let n : ℕ = min (until - w .now .at) (length input - at) in
-        run-passed until n r low (omega arith) (omega arith)
-        (rw e
-        (elim (decLt (w .now .at) until) [
-          | yes l ↦ skips n (drop at input) w (q .fits) (omega arith) (sooner w (omega arith) unripe)
-          | no l ↦ rw (skipped-none (w .signature .key) (first w) input (w .now) n at (omega arith)) (no-skips w n (drop at input) (q .fits))
-        ]))
+      pub run-skip :
+          (until : ℕ) → until ≤ maxTaken → Calm w until
+          → (r : Mark) → r ≡ skipped (w .signature .key) (first w) (min (until - w .now .at) (length input - at)) (w .now) (drop at input)
+          → Running self input from entry (movedOn w r) (at + (r .at - w .now .at)) noted (comparisons + (r .at - w .now .at)) exit
+      run-skip until low unripe r e =
+          let n : ℕ = min (until - w .now .at) (length input - at) in
+          run-passed until n r low (omega arith) (omega arith)
+          (rw e
+          (elim (decLt (w .now .at) until) [
+            | yes l ↦ skips (length entry) noted roomy n (drop at input) w (q .fits) (omega arith) (sooner w (omega arith) unripe)
+            | no l ↦
+                rw (skipped-none (w .signature .key) (first w) input (w .now) n at (omega arith))
+                (no-skips (length entry) noted w n (drop at input) (q .fits))
+          ]))
 
-module _ (self : Matcher) (input : List ℕ) (from : ℕ) where
-  -- no byte is left
-  pub scan-none : length input ≤ from → Ends from (scanned self (drop from input)) (silentEnd self 0 from Accepted)
-  unfolding scanned
-  scan-none l =
-      rw (drop-of-length-le input l)
-      (record { matcher = refl; answer = refl; comparisons = refl; next = omega arith; verdict = refl })
+-- What a call comes to: where the watch is a misfit, the list has no room, or no byte is left, nothing is taken.
+module _ (self : Matcher) (input : List ℕ) (from : ℕ) (entry : List ℕ) where
+  halts :
+      (verdict : Verdict)
+      → scanOf (length entry) self (drop from input) ≡ halted self (number verdict)
+      → Ends from (scanOf (length entry) self (drop from input)) entry (endOf self 0 0 from verdict) entry
+  halts verdict e =
+      rw e (record { matcher = refl; noted = refl; notes = refl; comparisons = refl; next = omega arith; verdict = refl })
 
--- What a call comes to, where the watch is no misfit and where it is one.
-module _ (self : Matcher) (input : List ℕ) (from : ℕ) (r : Scan) where
-  pub scan-fits : matcherFits self ≡ true → Ends from (scanned self (drop from input)) r → Ends from (scanOf self (drop from input)) r
+  pub scan-misfit :
+      matcherFits self ≡ false → Ends from (scanOf (length entry) self (drop from input)) entry (endOf self 0 0 from (Refused Misfit)) entry
   unfolding scanOf
-  scan-fits e q = rw e q
+  scan-misfit e = halts (Refused Misfit) (rw e)
 
-  pub scan-misfit : matcherFits self ≡ false → r ≡ silentEnd self 0 from (Refused Misfit) → Ends from (scanOf self (drop from input)) r
-  unfolding scanOf
-  scan-misfit e q =
-      rw (e, q) (record { matcher = refl; answer = refl; comparisons = refl; next = omega arith; verdict = refl })
+  module _ (fits : matcherFits self ≡ true) where
+    pub scan-small :
+        length entry < noteRoom
+        → Ends from (scanOf (length entry) self (drop from input)) entry (endOf self 0 0 from (Refused NoSpace)) entry
+    unfolding scanOf
+    scan-small l = halts (Refused NoSpace) (rw (fits, lt-leb (0 + noteRoom) (length entry) (omega arith)))
+
+    module _ (room : noteRoom ≤ length entry) where
+      scan-run : scanOf (length entry) self (drop from input) ≡ scanned (length entry) 0 self (drop from input)
+      unfolding scanOf
+      scan-run = rw (fits, le-leb (0 + noteRoom) (length entry) (omega arith))
+
+      pub scan-none :
+          length input ≤ from → Ends from (scanOf (length entry) self (drop from input)) entry (endOf self 0 0 from Accepted) entry
+      unfolding scanned
+      scan-none l = halts Accepted (scan-run ∙ ap (scanned (length entry) 0 self) (drop-of-length-le input l))
+
+      pub scan-fits :
+          (r : Scan) (exit : List ℕ)
+          → Ends from (scanned (length entry) 0 self (drop from input)) entry r exit
+          → Ends from (scanOf (length entry) self (drop from input)) entry r exit
+      scan-fits r exit e = rw scan-run e
 
 -- the parts of a contract by name
 pub parts :
-    {from : ℕ} {s : Scanned} {r : Scan}
-    → Ends from s r
+    {from : ℕ} {s : Scanned} {entry : List ℕ} {r : Scan} {exit : List ℕ}
+    → Ends from s entry r exit
     → (r .matcher ≡ s .matcher)
-    × ((r .answer ≡ s .answer)
-    × ((r .comparisons ≡ s .comparisons) × ((r .next ≡ from + s .taken) × (number (r .verdict) ≡ s .refusal))))
-parts q = (q .matcher, (q .answer, (q .comparisons, (q .next, q .verdict))))
+    × ((r .noted ≡ length (s .notes))
+    × ((exit ≡ s .notes ++ drop (length (s .notes)) entry)
+    × ((r .comparisons ≡ s .comparisons) × ((r .next ≡ from + s .taken) × (number (r .verdict) ≡ s .refusal)))))
+parts q = (q .matcher, (q .noted, (q .notes, (q .comparisons, (q .next, q .verdict)))))

@@ -2,27 +2,44 @@
 -- Assumes nothing.
 use Prim.Native.Nat.{ℕ, suc, _≤_, _<_}
 use mathlib.Core.Path.{_≡_, refl, sym, _∙_, ap}
-use mathlib.Core.Bool.{true, false}
+use mathlib.Core.Bool.{true, false, and-true}
 use mathlib.Core.List.{[], _∷_}
+use native.Mathlib.Omega.{arith}
 use lib.Dec.{leb, eqb}
 use lib.ListN.{getD}
-use borrow.Author.Tests.{lt-ltb, le-ltb}
+use borrow.Author.Tests.{lt-ltb, le-ltb, le-leb}
 use Rattle.fingerprint.specs.declared.Key.{Key}
 use Rattle.fingerprint.specs.Fingerprint.{sameKey, empty}
-use Rattle.fingerprint.proofs.Laws.{same-key-eq}
-use Rattle.lists.proofs.Cases.{Each, each}
+use Rattle.fingerprint.proofs.Laws.{same-key-eq, same-key-self}
+use Rattle.lists.proofs.Cases.{Each, each, by-test}
+use Rattle.lists.proofs.Laws.{every-intro}
+use Rattle.powers.specs.declared.Powers.{Powers}
+use Rattle.powers.specs.Powers.{powersOf}
 use Rattle.refusal.specs.Number.{number}
+use Rattle.signature.specs.Signature.{maxLength}
 use Rattle.stage.specs.Stage.{maxTaken}
-use Rattle.stage.specs.Stages.{allFrom}
+use Rattle.stage.specs.Stages.{stageCount, Stages, stageAt, allFrom}
 use Rattle.matcher.specs.declared.Matcher.{Matcher}
 use Rattle.matcher.specs.declared.Turn.{Turn}
-use Rattle.matcher.specs.declared.Powers.{Powers}
 use Rattle.matcher.specs.Matcher.{matcherFits}
 use Rattle.matcher.specs.Stroke.{noAnswer, compared, walked, strokeRefusal, strokeAnswer, afterStroke}
 use Rattle.matcher.specs.Skip.{isFirst}
-use Rattle.matcher.specs.Shared.{powersOf, sharedFits, sharedRefusal, sharedAnswer, sharedStages}
+use Rattle.matcher.specs.Shared.{sharedFits, sharedRefusal, sharedAnswer, sharedStages}
 use Rattle.matcher.proofs.Sound.{after-taken, answer-taken}
 use Rattle.matcher.proofs.Quiet.{Calm, quiet-answer, quiet-after}
+
+-- no start is below 0
+all-from-none : (l : Stages) → allFrom 0 l ≡ true
+all-from-none l =
+    every-intro _ stageCount
+    (λ i h.
+    by-test (eqb (stageAt l i .held) 0) (λ e. rw e)
+    (λ e. rw (e, le-leb 0 (stageAt l i .first .at) (omega arith), le-leb 0 (stageAt l i .last .at) (omega arith))))
+
+-- A watch by itself is one that shares its own key since the begin.
+pub shared-lone : (w : Matcher) → sharedFits (w .signature .key) 0 w ≡ matcherFits w
+shared-lone w =
+    rw (same-key-self (w .signature .key), le-leb 0 (w .now .at) (omega arith), all-from-none (w .stages)) (and-true (matcherFits w))
 
 -- What is handed back, where the key is the one that is shared.
 pub record Brings (key : Key) (since : ℕ) (w : Matcher) (byte : ℕ) (r : Turn) : Type 0 where
@@ -33,15 +50,15 @@ pub record Brings (key : Key) (since : ℕ) (w : Matcher) (byte : ℕ) (r : Turn
 -- The powers are those of one key at most.
 pub brought :
     (powers : Powers) (since : ℕ) (w : Matcher) (byte : ℕ) (r : Turn)
-    → (powers ≡ powersOf (powers .key) → Brings (powers .key) since w byte r)
+    → (powers ≡ powersOf (powers .key) maxLength → Brings (powers .key) since w byte r)
     → (r .moved ≡ false → r .walk .stages ≡ w .stages)
-    → ((key : Key) → powers ≡ powersOf key → number (r .verdict) ≡ sharedRefusal key since w)
-    × (((key : Key) → powers ≡ powersOf key → r .walk .stages ≡ sharedStages key since w byte)
-    × (((key : Key) → powers ≡ powersOf key → r .walk .answer ≡ sharedAnswer key since w byte)
+    → ((key : Key) → powers ≡ powersOf key maxLength → number (r .verdict) ≡ sharedRefusal key since w)
+    × (((key : Key) → powers ≡ powersOf key maxLength → r .walk .stages ≡ sharedStages key since w byte)
+    × (((key : Key) → powers ≡ powersOf key maxLength → r .walk .answer ≡ sharedAnswer key since w byte)
     × (r .moved ≡ false → r .walk .stages ≡ w .stages)))
 brought powers since w byte r f still =
-    let under : (key : Key) → powers ≡ powersOf key → Brings key since w byte r =
-    λ key e. let own : powers .key ≡ key = ap (λ (p : Powers). p .key) e in rw own at (f (e ∙ ap powersOf (sym own)))
+    let under : (key : Key) → powers ≡ powersOf key maxLength → Brings key since w byte r =
+    λ key e. let own : powers .key ≡ key = ap (λ (p : Powers). p .key) e in rw own at (f (e ∙ ap (λ (k : Key). powersOf k maxLength) (sym own)))
     in
     (λ key e. under key e .verdict, (λ key e. under key e .stages, (λ key e. under key e .answer, still)))
 

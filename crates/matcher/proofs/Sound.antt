@@ -13,11 +13,12 @@ use Rattle.lists.proofs.Cases.{by-test, each}
 use Rattle.signature.specs.Signature.{signatureFits}
 use Rattle.signature.proofs.Card.{SoundCard, sound-card}
 use Rattle.stage.specs.Stage.{maxTaken, nowFits}
-use Rattle.stage.specs.Stages.{stageCount, stageAt, stagesFit}
-use Rattle.stage.proofs.Fit.{Fit, fit-of, fits-of}
+use Rattle.stage.specs.Stages.{stageCount, stageAt, stagesFit, shapesFit}
+use Rattle.stage.proofs.Fit.{Fit, fits-of}
+use Rattle.stage.proofs.Follows.{Follows, shape-of, last-of, stage-fits}
 use Rattle.stage.proofs.Now.{SoundNow, sound-now, now-fits}
 use Rattle.matcher.specs.declared.Matcher.{Matcher}
-use Rattle.matcher.specs.Matcher.{matcherFits, moved}
+use Rattle.matcher.specs.Matcher.{matcherFits, shapely, moved}
 use Rattle.matcher.specs.Stroke.{nextMark, walked, strokeRefusal, strokeAnswer, afterStroke}
 
 -- What a watch that is no misfit says of itself.
@@ -27,13 +28,14 @@ pub record Sound (w : Matcher) : Type 0 where
   pub print : Below (w .now .print)
   pub starts : w .now .at ≡ 0 → w .now .print ≡ empty
   pub stage : (i : ℕ) → i < stageCount → Fit (w .signature .length) i (w .now .at) (w .now .at) (stageAt (w .stages) i)
+  pub follows : (i : ℕ) → i < stageCount → Follows (w .signature .key) (stageAt (w .stages) i)
 
 pub sound : (w : Matcher) → matcherFits w ≡ true → Sound w
 unfolding matcherFits
 sound w e =
     let q =
     each (signatureFits (w .signature))
-    (nowFits (w .now) ∷ stagesFit (w .signature .length) (w .now .at) (w .stages) ∷ [])
+    (nowFits (w .now) ∷ stagesFit (w .signature .key) (w .signature .length) (w .now .at) (w .stages) ∷ [])
     e
     in
     let n : SoundNow (w .now) = sound-now _ (q .1 .0) in
@@ -42,15 +44,31 @@ sound w e =
       within = n .within;
       print = n .print;
       starts = n .starts;
-      stage = λ i l. fit-of _ i _ _ (every-at _ stageCount (q .1 .1 .0) i l);
+      stage = λ i l. shape-of _ _ _ i _ (every-at _ stageCount (q .1 .1 .0) i l);
+      follows = λ i l. last-of _ _ _ i _ (every-at _ stageCount (q .1 .1 .0) i l);
     }
+
+-- What keeps a stroke's numbers in their range: the card, and document 01's rules for each stage.
+pub shapely-of :
+    (w : Matcher)
+    → shapely w ≡ true
+    → SoundCard (w .signature) × (shapesFit (w .signature .length) (w .now .at) (w .stages) ≡ true)
+unfolding shapely
+shapely-of w e =
+    let q =
+    each (signatureFits (w .signature)) (nowFits (w .now) ∷ shapesFit (w .signature .length) (w .now .at) (w .stages) ∷ []) e
+    in
+    (sound-card _ (q .0), q .1 .1 .0)
 
 -- What its card says of itself.
 pub card-of : {w : Matcher} → Sound w → SoundCard (w .signature)
 card-of q = sound-card _ (q .card)
 
-pub stages-fit : (w : Matcher) → Sound w → stagesFit (w .signature .length) (w .now .at) (w .stages) ≡ true
-stages-fit w q = every-intro _ stageCount (λ i l. fits-of _ i _ _ (q .stage i l))
+pub stages-fit : (w : Matcher) → Sound w → stagesFit (w .signature .key) (w .signature .length) (w .now .at) (w .stages) ≡ true
+stages-fit w q = every-intro _ stageCount (λ i l. stage-fits _ _ _ i _ (q .stage i l) (q .follows i l))
+
+pub shapes-fit : (w : Matcher) → Sound w → shapesFit (w .signature .length) (w .now .at) (w .stages) ≡ true
+shapes-fit w q = every-intro _ stageCount (λ i l. fits-of _ i _ _ (q .stage i l))
 
 pub sound-fits : (w : Matcher) → Sound w → matcherFits w ≡ true
 unfolding matcherFits

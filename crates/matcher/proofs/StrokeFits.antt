@@ -2,7 +2,7 @@
 -- Assumes nothing.
 use Prim.Native.Nat.{ℕ, zero, suc, _+_, _≤_, _<_}
 use mathlib.Core.Path.{_≡_, refl, sym, _∙_}
-use mathlib.Core.Logic.{_⊎_, inl, inr}
+use mathlib.Core.Logic.{inl, inr}
 use mathlib.Core.Bool.{true, false, not, true≢false}
 use native.Mathlib.Decide.{ℕ-discrete}
 use native.Mathlib.Omega.{arith}
@@ -16,7 +16,7 @@ use Rattle.lists.proofs.Laws.{and-left, and-right}
 use Rattle.lists.proofs.Cases.{by-test}
 use Rattle.stage.specs.declared.Mark.{Mark}
 use Rattle.stage.specs.declared.Stage.{Stage}
-use Rattle.stage.specs.Stage.{noStage, takenOff, entered}
+use Rattle.stage.specs.Stage.{noStage, takenOff}
 use Rattle.stage.specs.Stages.{stageCount, Stages, stageAt, withStage}
 use Rattle.stage.proofs.Fit.{Fit, idle, fit-past, fit-print}
 use Rattle.stage.proofs.Keeps.{fit-later, fit-unripe, fit-off, fit-entered}
@@ -25,7 +25,9 @@ use Rattle.matcher.specs.declared.Matcher.{Matcher}
 use Rattle.matcher.specs.declared.Walk.{Walk}
 use Rattle.matcher.specs.declared.Round.{Round}
 use Rattle.matcher.specs.Matcher.{matcherFits}
-use Rattle.matcher.specs.Stroke.{nextMark, noAnswer, promoted, promotedUnder, matches, tried, ripe, visited, descended, walkedFrom, walked, strokeRefusal, afterStroke}
+use Rattle.matcher.specs.Stroke.{nextMark, noAnswer, tried, ripe, visited, descended, walkedFrom, walked, strokeRefusal, afterStroke}
+use Rattle.matcher.proofs.Visits.{tried-stages}
+use Rattle.matcher.proofs.WalkFollows.{walked-follows}
 use Rattle.matcher.proofs.Sound.{Sound, sound, sound-fits, card-of, taken-fits, taken-below, after-taken}
 
 -- Before stage i - 1 is visited: the stages above i are done, stage i has lost its ripe start, and those below are as before the byte.
@@ -59,23 +61,9 @@ module _ (c : Round) (t : ℕ) (now : c .now .at ≡ suc t) where
       → ⊥
   unripe-first i s e z d = true≢false (sym (rw (ne-eqb (s .held) 0 z) (eq-eqb _ _ (d ∙ sym now))) ∙ e)
 
-  -- A comparison changes no stage, or a start enters stage i.
-  tried-stages :
-      (i : ℕ) (start : Mark) (w : Walk)
-      → (tried c i start w .stages ≡ w .stages)
-      ⊎ ((i ≡ levels m → ⊥) × (tried c i start w .stages ≡ withStage (w .stages) i (entered (c .signature .key) (stageAt (w .stages) i) start)))
-  unfolding tried promotedUnder
-  tried-stages i start w =
-      by-test (matches c i start)
-      (λ e.
-      by-test (eqb i (levels m))
-      (λ f. inl (rw (e, tried, f, promoted)))
-      (λ f. inr (eqb-false _ _ f, rw (e, tried, f, promoted))))
-      (λ e. inl (rw (e, tried)))
-
   tried-other : (i j : ℕ) (start : Mark) (w : Walk) → (j ≡ i → ⊥) → stageAt (tried c i start w .stages) j ≡ stageAt (w .stages) j
   tried-other i j start w n =
-      elim (tried-stages i start w) [
+      elim (tried-stages c i start w) [
         | inl e ↦ rw e
         | inr e ↦ rw (e .1) (stage-with-other (w .stages) i _ j n)
       ]
@@ -88,7 +76,7 @@ module _ (c : Round) (t : ℕ) (now : c .now .at ≡ suc t) where
       → Fit m i t (suc t) (stageAt (w .stages) i)
       → Fit m i (suc t) (suc t) (stageAt (tried c i start w .stages) i)
   tried-here i start w l due print q =
-      elim (tried-stages i start w) [
+      elim (tried-stages c i start w) [
         | inl e ↦ rw e (fit-later m i t _ q)
         | inr e ↦
             rw (e .1)
@@ -197,4 +185,5 @@ stroke-fits w b e =
       print = pushed-below (w .signature .key) (w .now .print) b;
       starts = λ z. absurd (omega arith);
       stage = walked-fit w b q;
+      follows = walked-follows w b q;
     }))

@@ -2,6 +2,7 @@
 -- Assumes nothing.
 use Prim.Native.Nat.{ℕ, zero, suc, _-_, _≤_, _<_}
 use mathlib.Core.Path.{_≡_, refl}
+use mathlib.Core.Logic.{_⊎_, inl, inr}
 use mathlib.Core.Bool.{Bool, true, false, cond}
 use native.Mathlib.Nat.{not-suc-le-zero}
 use native.Mathlib.Numerals.{sub-one}
@@ -77,6 +78,21 @@ module _ (c : Round) (i : ℕ) (w : Walk) where
           }
       unfolding visited tried promotedUnder
       visit-entered below aside e = rw (due, match, ne-eqb (suc i) _ below, e, with-aside)
+
+-- A comparison changes no stage, or a start enters stage i.
+pub tried-stages :
+    (c : Round) (i : ℕ) (start : Mark) (w : Walk)
+    → (tried c i start w .stages ≡ w .stages)
+    ⊎ ((i ≡ levels (c .signature .length) → ⊥)
+    × (tried c i start w .stages ≡ withStage (w .stages) i (entered (c .signature .key) (stageAt (w .stages) i) start)))
+unfolding tried promotedUnder
+tried-stages c i start w =
+    by-test (matches c i start)
+    (λ e.
+    by-test (eqb i (levels (c .signature .length)))
+    (λ f. inl (rw (e, tried, f, promoted)))
+    (λ f. inr (eqb-false _ _ f, rw (e, tried, f, promoted))))
+    (λ e. inl (rw (e, tried)))
 
 -- Where P_i was compared, the stages are whole as they were, and at most one set was set aside, none where the start rang.
 pub record Grows (k i : ℕ) (w r : Walk) : Type 0 where

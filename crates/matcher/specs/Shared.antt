@@ -1,22 +1,15 @@
--- One byte for a watch that shares its key, t and F_t with others (document 02, A.1): the powers of the key are found once for all of them.
-use Prim.Native.Nat.{ℕ, _^_}
+-- One byte for a watch that shares its key, t and F_t with others (document 02, A.1).
+use Prim.Native.Nat.{ℕ}
 use mathlib.Core.Bool.{Bool, cond, _&&_}
 use lib.Dec.{leb, ltb, eqb}
 use Rattle.fingerprint.specs.declared.Key.{Key}
-use Rattle.fingerprint.specs.Fingerprint.{sameKey, power}
-use Rattle.lists.specs.Lists.{tabulate}
-use Rattle.signature.specs.Signature.{places}
+use Rattle.fingerprint.specs.Fingerprint.{sameKey}
 use Rattle.stage.specs.Stage.{maxTaken}
 use Rattle.stage.specs.Stages.{Stages, allFrom}
 use Rattle.matcher.specs.declared.Matcher.{Matcher}
 use Rattle.matcher.specs.declared.Answer.{Answer}
-use Rattle.matcher.specs.declared.Powers.{Powers}
 use Rattle.matcher.specs.Matcher.{matcherFits}
 use Rattle.matcher.specs.Stroke.{noAnswer, strokeAnswer, afterStroke}
-
--- r to 1, 2, 4 .. 2^20.
-abbrev pub powersOf : Key → Powers
-powersOf key = record { key = key; squares = tabulate (λ i. power key (2 ^ i)) places }
 
 -- "A card with another key is a misfit, as is .. c above t, a start below c": among others that share the key, since the count c.
 abbrev pub sharedFits : Key → ℕ → Matcher → Bool

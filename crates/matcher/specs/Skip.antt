@@ -1,27 +1,21 @@
--- Definitions for the functions behind `stroke` and `scan`: powers of r are found once for all stages, and bytes that can change no stage
--- are passed over together.
-use Prim.Native.Nat.{ℕ, zero, suc, _+_, _≤_, _<_}
+-- Definitions for the functions behind `stroke` and `scan`: bytes that can change no stage are passed over together.
+use Prim.Native.Nat.{ℕ, zero, suc, _+_, _<_}
 use mathlib.Core.Path.{_≡_}
 use mathlib.Core.Bool.{Bool, cond}
-use mathlib.Core.List.{List, [], _∷_}
-use lib.ListN.{getD}
+use mathlib.Core.List.{List, [], _∷_, _++_}
+use lib.ListN.{length, drop}
 use Rattle.fingerprint.specs.declared.Key.{Key}
-use Rattle.fingerprint.specs.declared.Power.{Power}
 use Rattle.fingerprint.specs.declared.Fingerprint.{Fingerprint}
-use Rattle.fingerprint.specs.Fingerprint.{same, bytePrint, power, noPower}
-use Rattle.ladder.specs.Prefix.{levels, prefixLength}
+use Rattle.fingerprint.specs.Fingerprint.{same, bytePrint}
+use Rattle.ladder.specs.Prefix.{prefixLength}
 use Rattle.refusal.specs.declared.Verdict.{Verdict}
 use Rattle.refusal.specs.Number.{number}
 use Rattle.stage.specs.declared.Mark.{Mark}
 use Rattle.stage.specs.Stages.{Stages, stageAt}
 use Rattle.matcher.specs.declared.Matcher.{Matcher}
 use Rattle.matcher.specs.declared.Scan.{Scan}
-use Rattle.matcher.specs.Stroke.{nextMark, noAnswer}
+use Rattle.matcher.specs.Stroke.{nextMark}
 use Rattle.matcher.specs.Scan.{Scanned}
-
--- r to |P_i| for each tested beginning P_0 .. P_k.
-abbrev pub Shifts : Key → ℕ → List Power → Type 0
-Shifts key m shifts = (i : ℕ) → i ≤ levels m → getD shifts i noPower ≡ power key (prefixLength m i)
 
 -- Whether a byte is P_0, whose fingerprint is given.
 abbrev pub isFirst : Fingerprint → ℕ → Bool
@@ -39,15 +33,17 @@ abbrev pub Unripe : ℕ → ℕ → ℕ → Stages → Type 0
 Unripe k m t stages =
     (i : ℕ) → i < k → (stageAt stages i .held ≡ 0 → ⊥) → t < stageAt stages i .first .at + prefixLength m (suc i)
 
--- A run whose last byte had nothing to report.
-abbrev pub silentEnd : Matcher → ℕ → ℕ → Verdict → Scan
-silentEnd matcher comparisons next verdict =
-    record { matcher = matcher; answer = noAnswer; comparisons = comparisons; next = next; verdict = verdict }
+-- The end of a run: the watch, how many numbers were noted, all comparisons, the place behind the last byte taken, and the verdict.
+abbrev pub endOf : Matcher → ℕ → ℕ → ℕ → Verdict → Scan
+endOf matcher noted comparisons next verdict =
+    record { matcher = matcher; noted = noted; comparisons = comparisons; next = next; verdict = verdict }
 
--- What a run of strokes from a place of the input on hands back.
-pub record Ends (from : ℕ) (s : Scanned) (r : Scan) : Type 0 where
+-- What a run of strokes from a place of the input on hands back, and what it leaves in the list lent to it: the notes, and behind them what was
+-- there.
+pub record Ends (from : ℕ) (s : Scanned) (entry : List ℕ) (r : Scan) (exit : List ℕ) : Type 0 where
   pub matcher : r .matcher ≡ s .matcher
-  pub answer : r .answer ≡ s .answer
+  pub noted : r .noted ≡ length (s .notes)
+  pub notes : exit ≡ s .notes ++ drop (length (s .notes)) entry
   pub comparisons : r .comparisons ≡ s .comparisons
   pub next : r .next ≡ from + s .taken
   pub verdict : number (r .verdict) ≡ s .refusal

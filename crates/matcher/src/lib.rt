@@ -1,26 +1,31 @@
 // The streaming matcher (document 01, "Ladder"): a watch in a few hundred bytes, and its answer to each byte.
 ghost use mathlib.Core.Path.{_≡_};
 ghost use mathlib.Core.Bool.{true, false, not, _&&_};
-ghost use Prim.Native.Nat.{_+_, _-_, _≤_, _<_, suc, min};
+ghost use mathlib.Core.List.{_++_, _∷_, []};
+ghost use Prim.Native.Nat.{ℕ, _+_, _-_, _≤_, _<_, suc, min};
 ghost use lib.ListN.{length, drop};
 ghost use Rattle.fingerprint.specs.declared.Key.{Key};
 ghost use Rattle.fingerprint.specs.Fingerprint.{same, power};
 ghost use Rattle.ladder.specs.Prefix.{levels};
+ghost use Rattle.lists.specs.Stored.{Stored};
 ghost use Rattle.refusal.specs.declared.Verdict.the-variants.{Accepted, Refused};
 ghost use Rattle.refusal.specs.Number.{number};
 ghost use Rattle.signature.specs.Signature.{maxLength};
-ghost use Rattle.stage.specs.Stage.{maxTaken, gapTo, canEnter};
-ghost use Rattle.stage.specs.Stages.{stageCount, stagesFit, stageAt, allFrom};
-ghost use Rattle.matcher.specs.Matcher.{matcherFits, freshRefusal, fresh, blank, moved, noMatcher};
-ghost use Rattle.matcher.specs.Stroke.{noAnswer, compared, ringing, withAside, promotedUnder, descended, walkedFrom, nextMark, strokeRefusal, strokeAnswer, afterStroke};
-ghost use Rattle.matcher.specs.Scan.{silent, scanned, scanOf};
-ghost use Rattle.matcher.specs.Shared.{powersOf, sharedFits, sharedRefusal, sharedAnswer, sharedStages};
-ghost use Rattle.matcher.specs.Skip.{Shifts, skipped, Unripe, silentEnd, Ends};
+ghost use Rattle.stage.specs.Stage.{maxTaken, gapTo};
+ghost use Rattle.powers.specs.Powers.{powersOf, Shifts};
+ghost use Rattle.stage.specs.Stages.{stageCount, stagesFit, shapesFit, allFrom};
+ghost use Rattle.matcher.specs.Matcher.{matcherFits, shapely, freshRefusal, fresh, blank, moved, noMatcher};
+ghost use Rattle.matcher.specs.Stroke.{noAnswer, compared, ringing, withAside, walkedFrom, nextMark, strokeRefusal, strokeAnswer, afterStroke};
+ghost use Rattle.matcher.specs.Scan.{silent, noteSize, ringNotes, notesOf, noteRoom, scanned, scanOf};
+ghost use Rattle.matcher.specs.Shared.{sharedFits, sharedRefusal, sharedAnswer, sharedStages};
+ghost use Rattle.matcher.specs.Skip.{skipped, Unripe, endOf, Ends};
 use fingerprint::Fingerprint;
 use fingerprint::Key;
 use fingerprint::Power;
+use powers::Powers;
 use refusal::Refusal;
 use refusal::Verdict;
+use signature::PLACES;
 use signature::Signature;
 use stage::Aside;
 use stage::MAX_TAKEN;
@@ -29,8 +34,11 @@ use stage::Progression;
 use stage::STAGES;
 use stage::Stage;
 
-// Places for the powers of P_0 to P_20.
-const PLACES: usize = STAGES + 1;
+// The numbers of a note: its kind, t, and three numbers more. Kind 0 is a ring, with its start; 1 is a set set aside, with first, step and many.
+pub const NOTE: usize = 5;
+
+// The room that a list must have for the notes of one byte.
+pub const NOTE_ROOM: usize = NOTE * (STAGES + 1);
 
 // A watch: its card, t with F_t, and its stages.
 pub struct Matcher {
@@ -66,20 +74,14 @@ pub struct Stroke {
     pub matcher: Matcher,
 }
 
-// Where a run of strokes ended: the watch; the answer to the last byte taken, if it has something to report; all comparisons; the place
-// behind the last byte taken; and why the next byte was refused, if it was.
+// Where a run of strokes ended: the watch; how many numbers were noted; all comparisons; the place behind the last byte taken; and why the next
+// byte was refused, if it was.
 pub struct Scan {
     pub matcher: Matcher,
-    pub answer: Answer,
+    pub noted: usize,
     pub comparisons: u64,
     pub next: usize,
     pub verdict: Verdict,
-}
-
-// r to 1, 2, 4 .. 2^20, found once for all watches that share a key. Nothing outside makes one but `Powers::of`: its fields are private.
-pub struct Powers {
-    key: Key,
-    squares: [Power; PLACES],
 }
 
 // What one byte brings to a watch that shares t and F_t with others: whether its stages were visited, and what came of it: the stages then, and
@@ -136,27 +138,37 @@ fn quiet_until(stages: [Stage; STAGES], m: u32) -> u64
     until
 }
 
-// Whether each stage of a watch over m bytes fits at t and lists no start below a count, and the same t, if it is asked, in one pass.
-fn judge(stages: [Stage; STAGES], m: u32, t: u64, since: u64, asked: bool) -> Judged
+impl Judged {
+    fn misfit() -> Judged
+        ensures { λ r. ⌜ r .ok ≡ false ⌝ }
+    {
+        Judged {
+            ok: false,
+            until: 0,
+        }
+    }
+}
+
+// Whether each stage of a watch over m bytes fits at t and lists no start below a count, and the same t, if it is asked, in one pass. F_last is
+// judged last, of stages whose other numbers fit.
+fn judge(stages: [Stage; STAGES], powers: Powers, m: u32, t: u64, since: u64, asked: bool) -> Judged
     requires { ⌜ (1 ≤ m) × (m ≤ maxLength) ⌝ }
-    ensures ok { λ r. ⌜ r .ok ≡ (stagesFit m t stages && allFrom since stages) ⌝ }
+    ensures ok { λ r. ⌜ ((key : Key) (most : ℕ) → powers ≡ powersOf key most → r .ok ≡ (stagesFit key m t stages && allFrom since stages)) ⌝ }
+    ensures shape { λ r. ⌜ (r .ok ≡ true → shapesFit m t stages ≡ true) ⌝ }
     ensures until { λ r. ⌜ (r .ok ≡ true → asked ≡ true → Unripe (levels m) m (r .until) stages) ⌝ }
 {
     let mut until = MAX_TAKEN;
     let mut at: u32 = 0;
     while (at as usize) < STAGES {
         let stage = stages[at as usize];
-        if !stage.fits(m, at, t) {
-            return Judged {
-                ok: false,
-                until: 0,
-            };
+        if !stage.shape_fits(m, at, t) {
+            return Judged::misfit();
         }
         if !stage.listed_from(since) {
-            return Judged {
-                ok: false,
-                until: 0,
-            };
+            return Judged::misfit();
+        }
+        if !stage.last_fits(powers) {
+            return Judged::misfit();
         }
         if asked {
             until = stage.quiet_until(m, at + 1, until);
@@ -234,76 +246,15 @@ fn shifts(key: Key, m: u32) -> [Power; PLACES]
     requires { ⌜ m ≤ maxLength ⌝ }
     ensures { λ r. ⌜ Shifts key m r ⌝ }
 {
-    let k = signature::levels(m);
-    let nothing = Power::none();
-    let mut shifts = [nothing; PLACES];
-    let mut square = key.power(1);
-    let mut i: u32 = 0;
-    while i < k {
-        shifts[i as usize] = square;
-        square = square.squared();
-        i = i + 1;
-    }
-    let whole = key.power(m as u64);
-    shifts[k as usize] = whole;
-    shifts
-}
-
-impl Powers {
-    // The powers of a key.
-    pub fn of(key: Key) -> Powers
-        ensures { λ r. ⌜ r ≡ powersOf key ⌝ }
-    {
-        let nothing = Power::none();
-        let mut squares = [nothing; PLACES];
-        let mut square = key.power(1);
-        let mut i: u32 = 0;
-        while (i as usize) < PLACES {
-            squares[i as usize] = square;
-            square = square.squared();
-            i = i + 1;
-        }
-        Powers { key, squares }
-    }
-
-    // r to the m, by the binary digits of m.
-    fn whole(self, m: u32) -> Power
-        requires { ⌜ m ≤ maxLength ⌝ }
-        ensures { λ a. ⌜ ((key : Key) → self ≡ powersOf key → a ≡ power key m) ⌝ }
-    {
-        let key = self.key;
-        let squares = self.squares;
-        let mut product = key.power(0);
-        let mut left = m;
-        let mut i: u32 = 0;
-        while 0 < left {
-            if left % 2 == 1 {
-                product = product.times(squares[i as usize]);
-            }
-            left = left / 2;
-            i = i + 1;
-        }
-        product
-    }
-
-    // r to |P_i| for each tested beginning P_0 .. P_k of m bytes.
-    fn shifts(self, m: u32) -> [Power; PLACES]
-        requires { ⌜ m ≤ maxLength ⌝ }
-        ensures { λ r. ⌜ ((key : Key) → self ≡ powersOf key → Shifts key m r) ⌝ }
-    {
-        let k = signature::levels(m);
-        let whole = self.whole(m);
-        let mut shifts = self.squares;
-        shifts[k as usize] = whole;
-        shifts
-    }
+    let powers = Powers::of(key, m);
+    powers.shifts(m)
 }
 
 // One byte's walk. The stages are visited from the highest down: a ripe start is taken off and compared; on a match it rings or enters the stage
 // above. Then the start before the byte is compared with P_0. It is the ladder's walk where `shifts` are the powers of the card's key; no number
 // leaves its range whatever they are. (One function: each hand-over of a walk copies it.)
 fn climb(c: Round, shifts: [Power; PLACES], start: Mark, before: [Stage; STAGES]) -> Walk
-    requires { ⌜ (1 ≤ c .signature .length) × (c .signature .length ≤ maxLength) × (c .now .at ≡ suc (start .at)) × (c .now .at ≤ maxTaken) × (stagesFit (c .signature .length) (start .at) before ≡ true) ⌝ }
+    requires { ⌜ (1 ≤ c .signature .length) × (c .signature .length ≤ maxLength) × (c .now .at ≡ suc (start .at)) × (c .now .at ≤ maxTaken) × (shapesFit (c .signature .length) (start .at) before ≡ true) ⌝ }
     ensures { λ r. ⌜ (Shifts (c .signature .key) (c .signature .length) shifts → r ≡ walkedFrom c start before) ⌝ }
 {
     let m = c.signature.length;
@@ -426,40 +377,38 @@ impl Turn {
 }
 
 impl Matcher {
-    // Whether a watch that shares the key and t, since a count, is no misfit, and the t up to which it is quiet, if that is asked.
-    fn shared_fits(self, key: Key, since: u64, asked: bool) -> Judged
-        ensures ok { λ r. ⌜ r .ok ≡ sharedFits key since self ⌝ }
+    // Whether a watch that shares the key of powers and t, since a count, is no misfit, and the t up to which it is quiet, if that is asked.
+    fn shared_fits(self, powers: Powers, since: u64, asked: bool) -> Judged
+        ensures ok { λ r. ⌜ ((key : Key) (most : ℕ) → powers ≡ powersOf key most → r .ok ≡ sharedFits key since self) ⌝ }
+        ensures shape { λ r. ⌜ (r .ok ≡ true → shapely self ≡ true) ⌝ }
         ensures until { λ r. ⌜ (r .ok ≡ true → asked ≡ true → Unripe (levels (self .signature .length)) (self .signature .length) (r .until) (self .stages)) ⌝ }
     {
         let signature = self.signature;
         let mark = self.now;
         let own = signature.key;
-        let misfit = Judged {
-            ok: false,
-            until: 0,
-        };
+        let key = powers.key();
         if !own.equals(key) {
-            return misfit;
+            return Judged::misfit();
         }
         if mark.at < since {
-            return misfit;
+            return Judged::misfit();
         }
         if !signature.fits() {
-            return misfit;
+            return Judged::misfit();
         }
         if !mark.fits() {
-            return misfit;
+            return Judged::misfit();
         }
         let stages = self.stages;
-        judge(stages, signature.length, mark.at, since, asked)
+        judge(stages, powers, signature.length, mark.at, since, asked)
     }
 
     // Takes one byte of the stream, for a watch that shares key, t and F_t with others since a count. Refusals: 10 misfit, also for a card
-    // with another key, a count above t and a start below it; 6 spent. What is said of powers holds of those of any key, so of all there are.
+    // with another key, a count above t and a start below it; 6 spent. What is said of powers holds of the whole table of any key.
     pub fn stroke_shared(self, powers: Powers, since: u64, byte: u8) -> Turn
-        ensures verdict { λ r. ⌜ ((key : Key) → powers ≡ powersOf key → number (r .verdict) ≡ sharedRefusal key since self) ⌝ }
-        ensures stages { λ r. ⌜ ((key : Key) → powers ≡ powersOf key → r .walk .stages ≡ sharedStages key since self byte) ⌝ }
-        ensures answer { λ r. ⌜ ((key : Key) → powers ≡ powersOf key → r .walk .answer ≡ sharedAnswer key since self byte) ⌝ }
+        ensures verdict { λ r. ⌜ ((key : Key) → powers ≡ powersOf key maxLength → number (r .verdict) ≡ sharedRefusal key since self) ⌝ }
+        ensures stages { λ r. ⌜ ((key : Key) → powers ≡ powersOf key maxLength → r .walk .stages ≡ sharedStages key since self byte) ⌝ }
+        ensures answer { λ r. ⌜ ((key : Key) → powers ≡ powersOf key maxLength → r .walk .answer ≡ sharedAnswer key since self byte) ⌝ }
         ensures moved { λ r. ⌜ (r .moved ≡ false → r .walk .stages ≡ self .stages) ⌝ }
     {
         let signature = self.signature;
@@ -467,7 +416,7 @@ impl Matcher {
         let before = self.stages;
         let first = signature.prints[0];
         let other = !first.equals(Fingerprint::of_byte(byte));
-        let judged = self.shared_fits(powers.key, since, other);
+        let judged = self.shared_fits(powers, since, other);
         if !judged.ok {
             return Turn::refused(Refusal::Misfit, before);
         }
@@ -490,14 +439,76 @@ impl Matcher {
     }
 }
 
+// A note at a place of the list: a set with its kind.
+fn put_note(notes: &mut [u64], at: usize, kind: u64, t: u64, set: Progression) -> usize
+    requires { ⌜ at + noteSize ≤ length (now notes) ⌝ }
+    ensures { λ r. ⌜ Stored (now (notes .entry)) at (kind ∷ t ∷ set .first ∷ set .step ∷ set .many ∷ []) noteSize r (now (notes .exit)) ⌝ }
+{
+    notes[at] = kind;
+    notes[at + 1] = t;
+    notes[at + 2] = set.first;
+    notes[at + 3] = set.step as u64;
+    notes[at + 4] = set.many as u64;
+    at + NOTE
+}
+
+// The note of a ring, if a start rang.
+fn put_ring(notes: &mut [u64], at: usize, t: u64, ring: Ring) -> usize
+    requires { ⌜ at + noteSize ≤ length (now notes) ⌝ }
+    ensures { λ r. ⌜ Stored (now (notes .entry)) at (ringNotes t ring) noteSize r (now (notes .exit)) ⌝ }
+{
+    if let Ring::At(start) = ring {
+        let lone = Progression {
+            first: start,
+            step: 0,
+            many: 0,
+        };
+        return put_note(notes, at, 0, t, lone);
+    }
+    at
+}
+
+// How many sets of an answer count: there is a place for one of each stage.
+fn counted(asides: u32) -> usize
+    ensures { λ n. ⌜ n ≡ min asides stageCount ⌝ }
+{
+    let n = asides as usize;
+    if n < STAGES {
+        return n;
+    }
+    STAGES
+}
+
+// The notes of the answer to byte t, at a place of the list.
+fn put_answer(notes: &mut [u64], at: usize, t: u64, answer: Answer) -> usize
+    requires { ⌜ at + noteRoom ≤ length (now notes) ⌝ }
+    ensures { λ r. ⌜ Stored (now (notes .entry)) at (notesOf t answer) noteRoom r (now (notes .exit)) ⌝ }
+{
+    let ring = answer.ring;
+    let mut next = put_ring(notes, at, t, ring);
+    let asides = counted(answer.asides);
+    let mut i: usize = 0;
+    while i < asides {
+        next = put_note(notes, next, 1, t, answer.sets[i]);
+        i = i + 1;
+    }
+    next
+}
+
 impl Scan {
-    // A run whose last byte had nothing to report.
-    fn silent(matcher: Matcher, comparisons: u64, next: usize, verdict: Verdict) -> Scan
-        ensures { λ r. ⌜ r ≡ silentEnd matcher comparisons next verdict ⌝ }
+    // The end of a run.
+    fn ended(
+        matcher: Matcher,
+        noted: usize,
+        comparisons: u64,
+        next: usize,
+        verdict: Verdict,
+    ) -> Scan
+        ensures { λ r. ⌜ r ≡ endOf matcher noted comparisons next verdict ⌝ }
     {
         Scan {
             matcher,
-            answer: Answer::none(),
+            noted,
             comparisons,
             next,
             verdict,
@@ -511,15 +522,9 @@ impl Matcher {
         ensures { λ ok. ⌜ ok ≡ matcherFits self ⌝ }
     {
         let signature = self.signature;
-        let now = self.now;
-        if !signature.fits() {
-            return false;
-        }
-        if !now.fits() {
-            return false;
-        }
-        let stages = self.stages;
-        stage::stages_fit(stages, signature.length, now.at)
+        let powers = Powers::of(signature.key, signature.length);
+        let judged = self.shared_fits(powers, 0, false);
+        judged.ok
     }
 
     // A watch that has taken no byte, of a card that no one judged.
@@ -575,7 +580,10 @@ impl Matcher {
         ensures answer { λ r. ⌜ r .answer ≡ strokeAnswer self byte ⌝ }
         ensures matcher { λ r. ⌜ r .matcher ≡ afterStroke self byte ⌝ }
     {
-        if !self.fits() {
+        let signature = self.signature;
+        let powers = Powers::of(signature.key, signature.length);
+        let judged = self.shared_fits(powers, 0, false);
+        if !judged.ok {
             return Stroke {
                 verdict: Verdict::Refused(Refusal::Misfit),
                 answer: Answer::none(),
@@ -590,10 +598,9 @@ impl Matcher {
                 matcher: self,
             };
         }
-        let signature = self.signature;
         let before = self.stages;
         let now = next_mark(signature.key, start, byte);
-        let shifts = shifts(signature.key, signature.length);
+        let shifts = powers.shifts(signature.length);
         let w = climb(Round { signature, now }, shifts, start, before);
         let stages = w.stages;
         let answer = w.answer;
@@ -605,17 +612,19 @@ impl Matcher {
     }
 
     // The run of a watch that is no misfit.
-    fn run(self, input: &[u8], from: usize) -> Scan
-        requires { ⌜ (matcherFits self ≡ true) × (from ≤ length (now input)) ⌝ }
-        ensures { λ r. ⌜ Ends from (scanned self (drop from (now (input .entry)))) r ⌝ }
+    fn run(self, input: &[u8], from: usize, notes: &mut [u64]) -> Scan
+        requires { ⌜ (matcherFits self ≡ true) × (from ≤ length (now input)) × (noteRoom ≤ length (now notes)) ⌝ }
+        ensures { λ r. ⌜ Ends from (scanned (length (now (notes .entry))) 0 self (drop from (now (input .entry)))) (now (notes .entry)) r (now (notes .exit)) ⌝ }
     {
         let signature = self.signature;
         let key = signature.key;
         let first = signature.prints[0];
         let shifts = shifts(key, signature.length);
+        let last = notes.len() - NOTE_ROOM;
         let mut stages = self.stages;
         let mut now = self.now;
         let mut at = from;
+        let mut noted: usize = 0;
         let mut comparisons: u64 = 0;
         while at < input.len() {
             let until = quiet_until(stages, signature.length);
@@ -627,7 +636,8 @@ impl Matcher {
             if at < input.len() {
                 if MAX_TAKEN <= start.at {
                     let matcher = self.moved(now, stages);
-                    return Scan::silent(matcher, comparisons, at, Verdict::Refused(Refusal::Spent));
+                    let verdict = Verdict::Refused(Refusal::Spent);
+                    return Scan::ended(matcher, noted, comparisons, at, verdict);
                 }
                 now = next_mark(key, start, input[at]);
                 at = at + 1;
@@ -636,36 +646,38 @@ impl Matcher {
                 stages = w.stages;
                 comparisons = comparisons + (answer.comparisons as u64);
                 if !answer.is_silent() {
-                    let matcher = self.moved(now, stages);
-                    return Scan {
-                        matcher,
-                        answer,
-                        comparisons,
-                        next: at,
-                        verdict: Verdict::Accepted,
-                    };
+                    noted = put_answer(notes, noted, now.at, answer);
+                    if last < noted {
+                        let matcher = self.moved(now, stages);
+                        return Scan::ended(matcher, noted, comparisons, at, Verdict::Accepted);
+                    }
                 }
             }
         }
         let matcher = self.moved(now, stages);
-        Scan::silent(matcher, comparisons, at, Verdict::Accepted)
+        Scan::ended(matcher, noted, comparisons, at, Verdict::Accepted)
     }
 
-    // Takes the bytes from a place of the input on, until one has something to report, none is left or one is refused. Refusals: 10 misfit,
+    // Takes the bytes from a place of the input on, and notes what they have to report at the front of the list: until none is left, the list has
+    // no room for the notes of one byte more, or one is refused. Refusals: 10 misfit, 7 where the list has no room for the notes of one byte,
     // 6 spent. Bytes at which no start is ripe and which are not P_0 cost little more than the running fingerprint.
-    pub fn scan(self, input: &[u8], from: usize) -> Scan
-        ensures matcher { λ r. ⌜ r .matcher ≡ scanOf self (drop from (now (input .entry))) .matcher ⌝ }
-        ensures answer { λ r. ⌜ r .answer ≡ scanOf self (drop from (now (input .entry))) .answer ⌝ }
-        ensures comparisons { λ r. ⌜ r .comparisons ≡ scanOf self (drop from (now (input .entry))) .comparisons ⌝ }
-        ensures next { λ r. ⌜ r .next ≡ from + scanOf self (drop from (now (input .entry))) .taken ⌝ }
-        ensures verdict { λ r. ⌜ number (r .verdict) ≡ scanOf self (drop from (now (input .entry))) .refusal ⌝ }
+    pub fn scan(self, input: &[u8], from: usize, notes: &mut [u64]) -> Scan
+        ensures matcher { λ r. ⌜ r .matcher ≡ scanOf (length (now (notes .entry))) self (drop from (now (input .entry))) .matcher ⌝ }
+        ensures noted { λ r. ⌜ r .noted ≡ length (scanOf (length (now (notes .entry))) self (drop from (now (input .entry))) .notes) ⌝ }
+        ensures notes { λ _. ⌜ now (notes .exit) ≡ scanOf (length (now (notes .entry))) self (drop from (now (input .entry))) .notes ++ drop (length (scanOf (length (now (notes .entry))) self (drop from (now (input .entry))) .notes)) (now (notes .entry)) ⌝ }
+        ensures comparisons { λ r. ⌜ r .comparisons ≡ scanOf (length (now (notes .entry))) self (drop from (now (input .entry))) .comparisons ⌝ }
+        ensures next { λ r. ⌜ r .next ≡ from + scanOf (length (now (notes .entry))) self (drop from (now (input .entry))) .taken ⌝ }
+        ensures verdict { λ r. ⌜ number (r .verdict) ≡ scanOf (length (now (notes .entry))) self (drop from (now (input .entry))) .refusal ⌝ }
     {
         if !self.fits() {
-            return Scan::silent(self, 0, from, Verdict::Refused(Refusal::Misfit));
+            return Scan::ended(self, 0, 0, from, Verdict::Refused(Refusal::Misfit));
+        }
+        if notes.len() < NOTE_ROOM {
+            return Scan::ended(self, 0, 0, from, Verdict::Refused(Refusal::NoSpace));
         }
         if input.len() <= from {
-            return Scan::silent(self, 0, from, Verdict::Accepted);
+            return Scan::ended(self, 0, 0, from, Verdict::Accepted);
         }
-        self.run(input, from)
+        self.run(input, from, notes)
     }
 }

@@ -65,7 +65,7 @@ usedFits key t p =
     signatureFits (p .signature)
     && sameKey (p .signature .key) key
     && leb (p .since) t
-    && stagesFit (p .signature .length) t (p .stages)
+    && stagesFit (p .signature .key) (p .signature .length) t (p .stages)
     && allFrom (p .since) (p .stages)
 
 abbrev pub placeFits : Key → ℕ → Place → Bool

@@ -13,7 +13,8 @@ use Rattle.lists.proofs.Cases.{by-test}
 use Rattle.signature.specs.declared.Signature.{Signature}
 use Rattle.stage.specs.Stage.{maxTaken}
 use Rattle.stage.specs.Stages.{stageCount}
-use Rattle.stage.proofs.Fit.{idle, fits-of}
+use Rattle.stage.proofs.Fit.{idle}
+use Rattle.stage.proofs.Follows.{stage-fits, follows-none}
 use Rattle.stage.proofs.Stages.{no-stage-at}
 use Rattle.rack.specs.declared.Place.{Place}
 use Rattle.rack.specs.declared.Rack.{Rack}
@@ -116,7 +117,10 @@ module _ (r : Rack) (name : ℕ) (card : Signature) (typed : Typed r) (ok : putI
         card = q .card-fits;
         keyed = q .keyed;
         since = omega arith;
-        stages = every-intro _ stageCount (λ i l. fits-of (card .length) i (r .now .at) _ (idle (no-stage-at i)));
+        stages =
+            every-intro _ stageCount
+            (λ i l.
+            stage-fits (card .key) _ (card .length) i (r .now .at) (idle (no-stage-at i)) (rw (no-stage-at i) (follows-none (card .key))));
         from = all-none (r .now .at);
       }
 

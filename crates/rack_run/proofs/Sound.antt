@@ -36,7 +36,7 @@ pub record SoundPlace (key : Key) (t : ℕ) (p : Place) : Type 0 where
   pub card : signatureFits (p .signature) ≡ true
   pub keyed : sameKey (p .signature .key) key ≡ true
   pub since : p .since ≤ t
-  pub stages : stagesFit (p .signature .length) t (p .stages) ≡ true
+  pub stages : stagesFit (p .signature .key) (p .signature .length) t (p .stages) ≡ true
   pub from : allFrom (p .since) (p .stages) ≡ true
 
 -- What a rack that is no misfit says of itself.
@@ -63,7 +63,7 @@ module _ (key : Key) (t : ℕ) (p : Place) where
       each (signatureFits (p .signature))
       (sameKey (p .signature .key) key
       ∷ leb (p .since) t
-      ∷ stagesFit (p .signature .length) t (p .stages)
+      ∷ stagesFit (p .signature .key) (p .signature .length) t (p .stages)
       ∷ allFrom (p .since) (p .stages)
       ∷ [])
       e

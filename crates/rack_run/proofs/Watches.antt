@@ -10,7 +10,7 @@ use Rattle.lists.proofs.Laws.{every-at}
 use Rattle.signature.proofs.Card.{sound-card}
 use Rattle.stage.specs.Stage.{maxTaken}
 use Rattle.stage.specs.Stages.{stageCount, stagesFit}
-use Rattle.stage.proofs.Fit.{fit-of}
+use Rattle.stage.proofs.Follows.{shape-of, last-of}
 use Rattle.matcher.specs.declared.Matcher.{Matcher}
 use Rattle.matcher.specs.Matcher.{matcherFits, moved}
 use Rattle.matcher.specs.Stroke.{nextMark, walked, strokeRefusal}
@@ -34,14 +34,15 @@ module _ (r : Rack) (q : SoundRack r) (p : Place) (own : SoundPlace (r .key) (r 
         within = q .now .within;
         print = q .now .print;
         starts = q .now .starts;
-        stage = λ i l. fit-of _ i _ _ (every-at _ stageCount (own .stages) i l);
+        stage = λ i l. shape-of _ _ _ i _ (every-at _ stageCount (own .stages) i l);
+        follows = λ i l. last-of _ _ _ i _ (every-at _ stageCount (own .stages) i l);
       })
 
   module _ (byte : ℕ) (room : r .now .at < maxTaken) where
     pub watch-taken : strokeRefusal (watchAt (r .now) p) ≡ 0
     watch-taken = rw (watch-fits, lt-ltb (r .now .at) maxTaken room)
 
-    walked-fits : stagesFit (p .signature .length) (suc (r .now .at)) (walked watch byte .stages) ≡ true
+    walked-fits : stagesFit (p .signature .key) (p .signature .length) (suc (r .now .at)) (walked watch byte .stages) ≡ true
     walked-fits =
         let w : Matcher = moved watch (nextMark (p .signature .key) (r .now) byte) (walked watch byte .stages) in
         let fits : matcherFits w ≡ true = rw (after-taken watch byte watch-taken) at (stroke-fits watch byte watch-taken) in

@@ -41,7 +41,7 @@ module _ (key : Key) (base : Mark) where
       rw (ne-eqb (s .held) 0 n)
       (by-test (eqb (s .held) 1) (λ e. rw e)
       (λ e. by-test (eqb (s .held) 2)
-      (λ f. rw (e, f, forward-raised key base (s .first) (s .step)))
+      (λ f. rw (e, f))
       (λ f. rw (e, f, forward-raised key base (s .first) (s .step), ne-eqb (s .held - 1) 0 (omega (arith, eqb-false (s .held) 1 e))))))
 
   -- what becomes of a stage that lists a start, by the newcomer's gap

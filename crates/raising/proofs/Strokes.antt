@@ -1,15 +1,17 @@
 -- A raised watch is no misfit, takes the byte that the watch takes, and its answer and next watch are the raised ones.
 -- Assumes nothing.
-use Prim.Native.Nat.{ℕ, _+_, _≤_, _<_}
+use Prim.Native.Nat.{ℕ, _+_, _-_, _*_, _≤_, _<_}
 use mathlib.Core.Path.{_≡_, refl, sym, _∙_, ap}
 use mathlib.Core.Bool.{true}
 use native.Mathlib.Nat.{add-zero}
 use native.Mathlib.Omega.{arith}
 use borrow.Author.Tests.{lt-ltb}
 use Rattle.fingerprint.specs.declared.Key.{Key}
-use Rattle.fingerprint.specs.Fingerprint.{Below, empty}
+use Rattle.fingerprint.specs.declared.Fingerprint.{Fingerprint}
+use Rattle.fingerprint.specs.Fingerprint.{Below, empty, joined}
 use Rattle.fingerprint.proofs.Laws.{joined-below}
 use Rattle.fingerprint.proofs.Behind.{joined-none, joined-nothing}
+use Rattle.fingerprint.proofs.Joins.{times-behind}
 use Rattle.ladder.proofs.Levels.{levels-bound}
 use Rattle.signature.specs.declared.Signature.{Signature}
 use Rattle.stage.specs.declared.Mark.{Mark}
@@ -21,6 +23,7 @@ use Rattle.stage.specs.Stages.{stageAt, noStages}
 use Rattle.matcher.specs.Matcher.{matcherFits, blank}
 use Rattle.matcher.specs.Stroke.{nextMark, walked, strokeRefusal, strokeAnswer, afterStroke}
 use Rattle.stage.proofs.Fit.{Fit, idle, single, several}
+use Rattle.stage.proofs.Follows.{Follows, follows-alone}
 use Rattle.matcher.proofs.Sound.{Sound, sound, sound-fits, card-of, after-taken}
 use Rattle.matcher.proofs.StrokeFits.{midway-begin}
 use Rattle.raising.specs.Raised.{raisedMark, raisedStage, raisedWatch, raisedAnswer}
@@ -77,6 +80,25 @@ module _ (key : Key) (base : Mark) (m i t : ℕ) (s : Stage) where
         ends = omega (arith, q .ends);
       }))
 
+  follows-raised : Fit m i t t s → Follows key s → Follows key (raisedStage key base s)
+  follows-raised (idle e) q = rw (raised-none key base s (ap (λ (u : Stage). u .held) e)) q
+  follows-raised (single r) q =
+      rw (raised-some key base s (omega (arith, ap (λ (u : Stage). u .held) (r .shape))))
+      (rw (r .shape) (follows-alone key (raisedMark key base (s .first)) (joined-below key _ _ _)))
+  follows-raised (several r) q =
+      let ends : s .last .at ≡ s .first .at + (s .held - 1) * s .step .length =
+      r .ends ∙ ap (λ n. s .first .at + n * s .step .length) (omega (arith, r .held))
+      in
+      rw (raised-some key base s (omega (arith, r .held)))
+      (record {
+        first = joined-below key _ _ _;
+        last = joined-below key _ _ _;
+        joins =
+            ap (joined key (base .print) (s .last .print)) ends
+            ∙ ap (λ (f : Fingerprint). joined key (base .print) f (s .first .at + (s .held - 1) * s .step .length)) (q .joins)
+            ∙ sym (times-behind key (s .step .print) (s .step .length) (s .held - 1) (base .print) (s .first .print) (s .first .at));
+      })
+
 module _ (base : Mark) (w : Matcher) (b : Base base) (fits : matcherFits w ≡ true) where
   own : Sound w
   own = sound w fits
@@ -96,6 +118,10 @@ module _ (base : Mark) (w : Matcher) (b : Base base) (fits : matcherFits w ≡ t
             λ i l.
             rw (at-raised key′ base (w .stages) i)
             (fit-raised key′ base (w .signature .length) i (w .now .at) (stageAt (w .stages) i) (own .stage i l));
+        follows =
+            λ i l.
+            rw (at-raised key′ base (w .stages) i)
+            (follows-raised key′ base (w .signature .length) i (w .now .at) (stageAt (w .stages) i) (own .stage i l) (own .follows i l));
       })
 
   module _ (byte : ℕ) (room : base .at + w .now .at < maxTaken) where

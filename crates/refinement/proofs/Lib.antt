@@ -3,5 +3,4 @@ pub mod Follow
 pub mod Visits
 pub mod WatchFits
 pub mod Refines
-pub mod Readings
 pub mod Passages

@@ -12,14 +12,13 @@ use lib.Seq.{take-length, take-all}
 use borrow.Author.Tests.{lt-ltb}
 use Rattle.fingerprint.specs.declared.Key.{Key}
 use Rattle.fingerprint.specs.declared.Fingerprint.{Fingerprint}
-use Rattle.fingerprint.specs.Fingerprint.{agreeUnder}
-use Rattle.fingerprint.proofs.Laws.{fp-push, agree-self, agree-back, agree-on}
+use Rattle.fingerprint.proofs.Laws.{fp-push}
 use Rattle.ladder.specs.Ladder as ladder
 use Rattle.ladder.proofs.Levels.{levels-bound}
 use Rattle.ladder.proofs.Grow.{after-append}
 use Rattle.ladder.proofs.Stages.{after-staged}
 use Rattle.ladder.proofs.Even.{after-even}
-use Rattle.ladder.proofs.Gaps.{Equivalence, after-alike}
+use Rattle.ladder.proofs.Gaps.{after-alike}
 use Rattle.signature.specs.declared.Signature.{Signature}
 use Rattle.signature.specs.Signature.{signatureFits}
 use Rattle.stage.specs.Stage.{maxTaken}
@@ -29,15 +28,11 @@ use Rattle.matcher.specs.Stroke.{nextMark, walkedFrom, walked, strokeRefusal, s
 use Rattle.matcher.specs.declared.Walk.{Walk}
 use Rattle.refinement.specs.Refinement.{cardTests, markIn, summary, watchOf, Refines}
 use Rattle.signature.proofs.Card.{SoundCard, sound-card}
-use Rattle.refinement.proofs.Summary.{mark-grown, summary-grown}
+use Rattle.refinement.proofs.Summary.{by-print, mark-grown, summary-grown}
 use Rattle.refinement.proofs.Follow.{Scene, top, Follows}
 use Rattle.refinement.proofs.Visits.{Upon, step-follows}
 use Rattle.matcher.proofs.Sound.{after-taken}
 use Rattle.refinement.proofs.WatchFits.{fits}
-
--- To have one fingerprint is an equivalence.
-by-print : (key : Key) → Equivalence (agreeUnder key)
-by-print key = record { self = agree-self key; back = agree-back key; on = agree-on key }
 
 module _ (card : Signature) (card-fits : signatureFits card ≡ true) where
   abbrev key : Key

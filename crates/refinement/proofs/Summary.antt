@@ -11,20 +11,27 @@ use lib.Seq.{take-add, take-append-le, drop-append-le}
 use borrow.Author.Tests.{ne-eqb, lt-ltb}
 use Rattle.fingerprint.specs.declared.Key.{Key}
 use Rattle.fingerprint.specs.declared.Fingerprint.{Fingerprint}
-use Rattle.fingerprint.specs.Fingerprint.{fp, joined, agreeUnder}
-use Rattle.fingerprint.proofs.Laws.{same-eq, fp-join, fp-cut}
+use Rattle.fingerprint.specs.Fingerprint.{fp, joined, joinedTimes, agreeUnder}
+use Rattle.fingerprint.proofs.Laws.{same-eq, fp-join, fp-cut, fp-below, agree-self, agree-back, agree-on}
+use Rattle.fingerprint.proofs.Joins.{times-first}
 use Rattle.ladder.specs.Prefix.{block}
 use Rattle.ladder.specs.Ladder as ladder
 use Rattle.ladder.proofs.Blocks.{block-length}
 use Rattle.ladder.proofs.Starts.{Has, Ascending, has-last}
-use Rattle.ladder.proofs.Even.{Even}
-use Rattle.ladder.proofs.Gaps.{Alike}
+use Rattle.ladder.proofs.Even.{Steps, Even}
+use Rattle.ladder.proofs.Gaps.{Equivalence, Blocks, Alike}
 use Rattle.signature.specs.declared.Signature.{Signature}
+use Rattle.stage.specs.declared.Mark.{Mark}
 use Rattle.stage.specs.declared.Gap.{Gap}
 use Rattle.stage.specs.Stage.{sameGap, alone, gapTo, forward, takenOff, entered, setsAside, allButLast}
 use Rattle.lists.proofs.Cases.{by-test}
 use Rattle.stage.proofs.Fit.{stage-by}
+use Rattle.stage.proofs.Follows.{Follows, follows-none, follows-alone}
 use Rattle.refinement.specs.Refinement.{cardTests, markIn, summary, readSet}
+
+-- to have one print is an equivalence
+pub by-print : (key : Key) → Equivalence (agreeUnder key)
+by-print key = record { self = agree-self key; back = agree-back key; on = agree-on key }
 
 last-snoc : (x : ℕ) (xs : List ℕ) (z : ℕ) → ladder.lastOf x (xs ++ z ∷ []) ≡ z
 unfolding ladder.lastOf
@@ -87,12 +94,49 @@ module _ (key : Key) (h : List ℕ) where
       → takenOff key (summary key h (x ∷ xs)) ≡ summary key h xs
   unfolding takenOff summary ladder.lastOf
   summary-off x [] up low even like = refl
-  summary-off x (y ∷ []) up low even like = ap alone (forward-to x y (omega (arith, up .0 y (inl refl))) (low y (inr (inl refl))))
+  summary-off x (y ∷ []) up low even like = refl
   summary-off x (y ∷ z ∷ zs) up low even like =
       let n : ℕ = suc (suc (suc (length zs))) in
       rw (ne-eqb n 1 (omega arith), ne-eqb n 2 (omega arith), takenOff)
       (stage-by (omega arith) (forward-to x y (omega (arith, up .0 y (inl refl))) (low y (inr (inl refl)))) refl
       (next-gap x y z zs even like))
+
+  -- From one start to the last, by joins of the block that leads from each to the next.
+  reaches :
+      (d : ℕ) (e : List ℕ) (x : ℕ) (xs : List ℕ)
+      → Steps d x xs
+      → ((s : ℕ) → Has xs s → s ≤ length h)
+      → Blocks (agreeUnder key) h d e x xs
+      → joinedTimes key (length xs) (markIn key h x .print) (fp key e) d ≡ markIn key h (ladder.lastOf x xs) .print
+  unfolding joinedTimes ladder.lastOf
+  reaches d e x [] steps low like = refl
+  reaches d e x (y ∷ ys) steps low like =
+      let gap : y - x ≡ d = omega (arith, steps .0) in
+      let next : joined key (markIn key h x .print) (fp key (block h x (y - x))) (y - x) ≡ markIn key h y .print =
+      ap (λ (a : Mark). a .print) (forward-to x y (omega (arith, steps .0)) (low y (inl refl)))
+      in
+      times-first key (fp key e) d (length ys) (markIn key h x .print)
+      ∙ ap (λ (f : Fingerprint). joinedTimes key (length ys) f (fp key e) d)
+      (ap (λ (f : Fingerprint). joined key (markIn key h x .print) f d) (sym (same-eq _ _ (like .0))) ∙ rw gap at next)
+      ∙ reaches d e y ys (steps .1) (λ s q. low s (inr q)) (like .1)
+
+  -- F_last comes out of F_first by joins of the step print.
+  pub summary-follows :
+      (xs : List ℕ)
+      → ((s : ℕ) → Has xs s → s ≤ length h)
+      → Even xs
+      → Alike (agreeUnder key) h xs
+      → Follows key (summary key h xs)
+  unfolding summary ladder.lastOf
+  summary-follows [] low even like = follows-none key
+  summary-follows (x ∷ []) low even like = follows-alone key (markIn key h x) (fp-below key (take x h))
+  summary-follows (x ∷ y ∷ more) low even like =
+      let joins : suc (suc (length more)) - 1 ≡ suc (length more) = omega arith in
+      record {
+        first = fp-below key (take x h);
+        last = fp-below key (take (ladder.lastOf y more) h);
+        joins = rw joins (sym (reaches (y - x) (block h x (y - x)) x (y ∷ more) even (λ s q. low s (inr q)) like));
+      }
 
 -- A start enters behind those listed, or all of them but the last are set aside.
 module _ (card : Signature) (h : List ℕ) (z : ℕ) (inside : z ≤ length h) where

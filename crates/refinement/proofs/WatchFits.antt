@@ -19,6 +19,7 @@ use Rattle.ladder.proofs.Starts.{has-last}
 use Rattle.ladder.proofs.Aged.{Aged}
 use Rattle.ladder.proofs.Stages.{after-staged}
 use Rattle.ladder.proofs.Even.{Even, even-last, after-even}
+use Rattle.ladder.proofs.Gaps.{after-alike}
 use Rattle.signature.specs.declared.Signature.{Signature}
 use Rattle.signature.specs.Signature.{signatureFits}
 use Rattle.stage.specs.Stage.{maxTaken}
@@ -28,6 +29,7 @@ use Rattle.matcher.specs.Matcher.{matcherFits, freshRefusal, blank, fresh}
 use Rattle.refinement.specs.Refinement.{cardTests, summary, watchOf}
 use Rattle.stage.proofs.Fit.{Fit, idle, single, several}
 use Rattle.matcher.proofs.Sound.{sound-fits}
+use Rattle.refinement.proofs.Summary.{by-print, summary-follows}
 use Rattle.signature.proofs.Card.{SoundCard, sound-card}
 
 -- only below k are the tested beginnings of stages i and i + 1 of different length
@@ -95,6 +97,13 @@ module _ (card : Signature) (card-fits : signatureFits card ≡ true) where
             (summary-fit (card .key) h (card .length) i (length h) _
             (after-staged (cardTests card) h (sound .long) (length h) (omega arith) .aged i)
             (after-even (cardTests card) h (sound .long) (length h) (omega arith) i));
+        follows =
+            λ i l.
+            let aged = after-staged (cardTests card) h (sound .long) (length h) (omega arith) .aged i in
+            rw (stage-of (λ i. summary (card .key) h (ladder.after (cardTests card) h (length h) i)) i l)
+            (summary-follows (card .key) h _ (λ s q. omega (arith, aged .old s q))
+            (after-even (cardTests card) h (sound .long) (length h) (omega arith) i)
+            (after-alike (cardTests card) h (by-print (card .key)) (sound .long) (length h) (omega arith) i));
       })
 
   pub fresh-accepted : freshRefusal card ≡ 0

@@ -10,11 +10,11 @@ use stage::Gap;
 use stage::Mark;
 use stage::Stage;
 
-// A start with some print.
+// A place with a print of 0: with a step print of 0 too, the last print follows from the first whatever is held.
 fn mark(at: u64) -> Mark {
     Mark {
         at,
-        print: Fingerprint::of_number(12345),
+        print: Fingerprint::empty(),
     }
 }
 
@@ -41,9 +41,13 @@ fn listing(row: [u64; 8]) -> Matcher {
         stages[i as usize] = stage_of(row);
     }
     let signature = fresh.signature;
+    let now = Mark {
+        at: row[1],
+        print: Fingerprint::of_number(12345),
+    };
     Matcher {
         signature,
-        now: mark(row[1]),
+        now,
         stages,
     }
 }

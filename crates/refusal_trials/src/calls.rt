@@ -9,6 +9,9 @@ use crate::changes::pick;
 use crate::compare::same_answer;
 use crate::compare::same_matcher;
 use crate::meeting::meet;
+use crate::notes::ONE;
+use crate::notes::SPARE;
+use crate::notes::spare_from;
 use crate::replaced::same_bytes;
 use matcher::Answer;
 use matcher::Matcher;
@@ -25,24 +28,20 @@ pub const LAST_T: u64 = 1099511627775;
 
 pub const LAST_NARROW_T: u64 = 4294967295;
 
-// Beside a refusal stand the same watch, no answer, and the place at which the call began.
-fn kept(number: u32, before: Matcher, after: Matcher, answer: Answer, next: usize) -> bool {
-    let same = number == 0 || same_matcher(before, after) && same_answer(answer, Answer::none());
-    same && (number == 0 || next == 0)
-}
-
-// A stroke, with this verdict.
+// A stroke, with this verdict: beside a refusal stand the same watch and no answer.
 fn struck(w: Matcher, stroke: Stroke, number: u32, tally: &mut [u32]) {
     let verdict = stroke.verdict;
-    let holds = kept(number, w, stroke.matcher, stroke.answer, 0);
-    meet(verdict, number, holds, tally);
+    let kept = same_matcher(w, stroke.matcher) && same_answer(stroke.answer, Answer::none());
+    meet(verdict, number, number == 0 || kept, tally);
 }
 
-// Strokes in one call, with this verdict.
+// Strokes in one call, with this verdict: beside a refusal stand the same watch, no note, and the place at which the call began.
 fn scan(w: Matcher, number: u32, tally: &mut [u32]) {
-    let scanned = w.scan(&[1], 0);
-    let verdict = scanned.verdict;
-    let holds = kept(number, w, scanned.matcher, scanned.answer, scanned.next);
+    let mut numbers = [SPARE; ONE];
+    let scan = w.scan(&[1], 0, &mut numbers);
+    let verdict = scan.verdict;
+    let kept = same_matcher(w, scan.matcher) && scan.noted == 0 && scan.next == 0;
+    let holds = spare_from(&numbers, scan.noted) && (number == 0 || kept);
     meet(verdict, number, holds, tally);
 }
 

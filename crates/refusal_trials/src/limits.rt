@@ -1,5 +1,5 @@
 // Watches at the limits of t, 4294967295 for a narrow record and 1099511627775 for all, handed in by value: strokes, parkings, the bytes of both
-// records, resumptions; and scans over the limits.
+// records, resumptions; and scans over the limits, also with lists of several lengths.
 use crate::bytes::front;
 use crate::calls::LAST_NARROW_T;
 use crate::calls::LAST_T;
@@ -12,12 +12,17 @@ use crate::changes::T;
 use crate::changes::pick;
 use crate::compare::same_matcher;
 use crate::meeting::meet;
+use crate::notes::ONE;
+use crate::notes::SPARE;
+use crate::notes::TWELVE;
+use crate::notes::say_rings;
+use crate::notes::scan_lent;
+use crate::notes::spare_from;
 use crate::print::hex;
 use crate::print::item;
 use crate::print::say;
 use crate::print::say_form;
 use crate::print::words;
-use crate::spent::say_ring;
 use crate::watches::late;
 use crate::watches::put_place;
 use matcher::Matcher;
@@ -115,26 +120,38 @@ pub(crate) fn watches(tally: &mut [u32]) {
     cases(1048576, tally);
 }
 
-// What a scan came to.
-fn say_scan(scan: Scan, tally: &mut [u32]) {
+// What a scan came to, and what it left in the list.
+fn say_scan(scan: Scan, numbers: &[u64], tally: &mut [u32]) {
     let verdict = scan.verdict;
-    let answer = scan.answer;
-    let ring = answer.ring;
-    meet(verdict, verdict.number(), true, tally);
+    let holds = spare_from(numbers, scan.noted);
+    meet(verdict, verdict.number(), holds, tally);
     item(b", next ", scan.next as u64);
     item(b", t ", scan.matcher.now.at);
-    say_ring(ring);
+    say_rings(numbers, scan.noted);
     item(b", comparisons ", scan.comparisons);
     words(b"\n");
 }
 
-// Twelve bytes in one call, to a watch that lists nothing at t.
+// Twelve bytes in one call, to a watch that lists nothing at t. The list has the room for the notes of one byte.
 fn scan(m: u32, t: u64, byte: u8, tally: &mut [u32]) {
     let w = late(m, t, 0);
     say(b"scan of 12 bytes #, watch of #", &[byte as u32, m]);
     item(b" at ", t);
     words(b":");
-    say_scan(w.scan(&[byte; 12], 0), tally);
+    let mut numbers = [SPARE; ONE];
+    let scan = w.scan(&[byte; 12], 0, &mut numbers);
+    say_scan(scan, &numbers, tally);
+}
+
+// The same with so many numbers.
+fn scan_into(m: u32, t: u64, n: u32, tally: &mut [u32]) {
+    let w = late(m, t, 0);
+    say(b"scan of 12 bytes 1 into # numbers, watch of #", &[n, m]);
+    item(b" at ", t);
+    words(b":");
+    let mut numbers = [SPARE; TWELVE];
+    let scan = scan_lent(w, &[1; 12], &mut numbers, n as usize);
+    say_scan(scan, &numbers, tally);
 }
 
 // Bytes that are not the passage's first, and bytes that are.
@@ -156,4 +173,23 @@ pub(crate) fn scans(tally: &mut [u32]) {
     scans_of(1, tally);
     scans_of(2, tally);
     scans_of(16, tally);
+}
+
+// No number, one too few for the notes of one byte, just enough and four more; then enough for one note before them, and for each of twelve.
+fn lists_of(m: u32, t: u64, tally: &mut [u32]) {
+    scan_into(m, t, 0, tally);
+    scan_into(m, t, 104, tally);
+    scan_into(m, t, 105, tally);
+    scan_into(m, t, 109, tally);
+    scan_into(m, t, 110, tally);
+    scan_into(m, t, 165, tally);
+}
+
+// A passage that rings at each byte and one that rings from the second on; the last t, past which a watch misfits, and the bytes before it.
+pub(crate) fn lists(tally: &mut [u32]) {
+    lists_of(1, 4294967290, tally);
+    lists_of(2, 4294967290, tally);
+    lists_of(1, 1099511627769, tally);
+    lists_of(1, 1099511627775, tally);
+    lists_of(1, 1099511627776, tally);
 }

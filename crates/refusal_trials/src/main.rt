@@ -18,6 +18,7 @@ mod lines; // lines.rt: two streams of document 01, also late
 mod meeting; // meeting.rt: verdicts, printed and counted
 mod mixed; // mixed.rt: both records in one buffer
 mod names; // names.rt: the numbers that were replaced
+mod notes; // notes.rt: lists lent to a scan
 mod print; // print.rt: words and numbers of a line
 mod records; // records.rt: records with a head or number replaced
 mod replaced; // replaced.rt: records with each byte replaced
@@ -121,6 +122,7 @@ fn at_limits(tally: &mut [u32]) {
     mixed::trial(1, tally);
     limits::watches(tally);
     limits::scans(tally);
+    limits::lists(tally);
 }
 
 // Over 4294967296, and the stream's end.

@@ -28,7 +28,7 @@ fn resumed(m: u32, t: u64, narrow: bool) -> Restored {
 }
 
 // What rang, if anything did.
-pub(crate) fn say_ring(ring: Ring) {
+fn say_ring(ring: Ring) {
     if let Ring::At(start) = ring {
         item(b", rings ", start);
     }

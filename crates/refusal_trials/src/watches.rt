@@ -258,7 +258,8 @@ pub(crate) fn one_listed(tally: &mut [u32]) {
     );
 }
 
-// Stage 2, which lists three starts: held, first, last and step that don't go together; and its prints, each below p.
+// Stage 2, which lists three starts: held, first, last and step that don't go together; and its prints, each below p, where the last follows
+// from the others and where it does not.
 pub(crate) fn many_listed(tally: &mut [u32]) {
     cases(
         16,
@@ -272,14 +273,29 @@ pub(crate) fn many_listed(tally: &mut [u32]) {
             [STAGE_2 + LAST, 1, NOWHERE, 0, 10],
             [STAGE_2 + STEP, 0, NOWHERE, 0, 10],
             [STAGE_2 + STEP, 2, NOWHERE, 0, 10],
-            [STAGE_2 + HELD, 2, STAGE_2 + STEP, 2, 0],
-            [STAGE_2 + HELD, 2, STAGE_2 + LAST, 1, 0],
-            [STAGE_2 + F_FIRST, 2147483646, NOWHERE, 0, 0],
+            [STAGE_2 + HELD, 2, STAGE_2 + STEP, 2, 10],
+            [STAGE_2 + HELD, 2, STAGE_2 + LAST, 1, 10],
+            [STAGE_2 + F_FIRST, 2147483646, NOWHERE, 0, 10],
             [STAGE_2 + F_FIRST, 2147483647, NOWHERE, 0, 10],
-            [STAGE_2 + F_LAST, 2147483646, NOWHERE, 0, 0],
+            [STAGE_2 + F_LAST, 2147483646, NOWHERE, 0, 10],
             [STAGE_2 + F_LAST, 2147483647, NOWHERE, 0, 10],
-            [STAGE_2 + STEP_PRINT, 2147483646, NOWHERE, 0, 0],
+            [STAGE_2 + STEP_PRINT, 2147483646, NOWHERE, 0, 10],
             [STAGE_2 + STEP_PRINT, 2147483647, NOWHERE, 0, 10],
+            [STAGE_2 + F_FIRST, 2147483646, STAGE_2 + F_LAST, 2, 0],
+            [
+                STAGE_2 + F_FIRST,
+                536870910,
+                STAGE_2 + F_LAST,
+                2147483646,
+                0,
+            ],
+            [
+                STAGE_2 + STEP_PRINT,
+                2147483646,
+                STAGE_2 + F_LAST,
+                2147483644,
+                0,
+            ],
         ],
         tally,
     );
@@ -426,7 +442,7 @@ pub(crate) fn cards(tally: &mut [u32]) {
             [LENGTH, 17, 0],
             [LENGTH, 1048577, 10],
             [KEY, 1, 10],
-            [KEY, 2147483646, 0],
+            [KEY, 2147483646, 10],
             [KEY, 2147483647, 10],
             [PRINTS, 0, 10],
             [PRINTS, 1, 0],

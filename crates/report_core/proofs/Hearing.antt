@@ -1,28 +1,33 @@
 -- What bytes bring: scan by scan as `feed` takes them, and what of it is printed and kept.
 -- Assumes nothing.
-use Prim.Native.Nat.{ℕ, suc, _+_, _≤_, _<_}
+use Prim.Native.Nat.{ℕ, suc, _+_, _*_, _≤_, _<_}
 use mathlib.Core.Path.{_≡_, refl, sym, _∙_, ap}
 use mathlib.Core.Bool.{Bool, true, false, cond}
 use mathlib.Core.List.{List, [], _∷_, _++_, append-assoc}
 use native.Mathlib.Nat.{add-assoc, add-zero}
 use native.Mathlib.Omega.{arith}
 use lib.Dec.{eqb}
-use lib.ListN.{length, drop}
+use lib.ListN.{length, drop, getD, length-append, List·getD-append}
+use lib.Seq.{getD-append-add}
 use borrow.Author.Tests.{eqb-true, eqb-false, leb-true, le-leb}
 use Rattle.lists.proofs.Cases.{by-test}
 use Rattle.lists.proofs.Laws.{and-left, and-right, and-both}
 use Rattle.stage.specs.Stage.{maxTaken}
 use Rattle.matcher.specs.declared.Matcher.{Matcher}
 use Rattle.matcher.specs.Matcher.{matcherFits}
-use Rattle.matcher.specs.Stroke.{strokeRefusal, strokeAnswer}
-use Rattle.matcher.specs.Scan.{silent, Scanned, scanned, scanOf}
+use Rattle.matcher.specs.Stroke.{strokeRefusal, strokeAnswer, afterStroke}
+use Rattle.matcher.specs.Scan.{noteSize, noteRoom, roomFor, notesAt, halted, Scanned, scanned, scanOf}
+use Rattle.matcher.specs.Scan as scan
 use Rattle.matcher.proofs.Sound.{sound}
 use Rattle.matcher.proofs.StrokeFits.{stroke-fits}
-use Rattle.report_lines.specs.Lines.{reportLines}
+use Rattle.decimal.specs.Decimal.{putLimit}
+use Rattle.report_lines.specs.Sizes.{mostLine}
+use Rattle.report_lines.specs.Lines.{room, noteLines}
+use Rattle.report_lines.proofs.Notes.{answer-lines, notes-lines, lines-length}
 use Rattle.report_core.specs.declared.Progress.{Progress}
 use Rattle.report_core.specs.Output.{refusedLines, transcript}
-use Rattle.report_core.specs.Progress.{progressFits, onward, linesAt, Heard, stopped, behind, heardWhile, heard, pending}
-use Rattle.report_core.proofs.Transcript.{quiet, silent-lines, taken-later, taken-few}
+use Rattle.report_core.specs.Progress.{progressFits, onward, linesAt, Heard, stopped, behind, heardWhile, heard, roomIn, pending}
+use Rattle.report_core.proofs.Transcript.{taken-later, taken-few}
 
 pub heard-by :
     {g h : Heard}
@@ -41,17 +46,19 @@ pub behind-behind :
     (n m : ℕ) (l k : List ℕ) (h : Heard) → behind n l (behind m k h) ≡ behind (n + m) (l ++ k) h
 behind-behind n m l k h = heard-by refl (omega arith) (sym (append-assoc l k (h .lines))) refl
 
--- the progress behind a scan, and the lines of its last answer
+-- the progress behind a scan
 abbrev pub behindScan : Progress → Scanned → Progress
 behindScan p s = record { matcher = s .matcher; total = p .total + s .comparisons }
 
-abbrev pub scanLines : Scanned → List ℕ
-scanLines s = reportLines (s .matcher .now .at) (s .answer)
-
--- a call of scan judges the watch as its first stroke does
-pub scan-same : (w : Matcher) (byte : ℕ) (bytes : List ℕ) → scanOf w (byte ∷ bytes) ≡ scanned w (byte ∷ bytes)
+-- a call of scan that is lent enough judges the watch as its first stroke does
+pub scan-same :
+    (size : ℕ) (w : Matcher) (byte : ℕ) (bytes : List ℕ)
+    → noteRoom ≤ size
+    → scanOf size w (byte ∷ bytes) ≡ scanned size 0 w (byte ∷ bytes)
 unfolding scanOf scanned
-scan-same w byte bytes = by-test (matcherFits w) (λ e. rw e) (λ e. rw (e, scanned))
+scan-same size w byte bytes l =
+    let roomy = le-leb (0 + noteRoom) size (omega arith) in
+    by-test (matcherFits w) (λ e. rw (e, roomy)) (λ e. rw (e, scanned, roomy))
 
 -- t of a progress that is no misfit has a limit
 pub fits-within : (p : Progress) → progressFits p ≡ true → p .matcher .now .at ≤ maxTaken
@@ -85,31 +92,104 @@ pub pending-refused :
 unfolding pending
 pending-refused refusal p bytes e = rw e
 
-module _ (roomy : ℕ → Bool) where
+-- A scan that is lent a list of so many numbers, of which some are used, beside a buffer of so many bytes. The notes of a byte are not longer than
+-- 21 notes, and their lines not longer than as many of the longest lines. So where the scan takes a byte, there is room for its lines.
+module _ (size cap : ℕ) where
+  -- the free bytes are enough for as many of the longest lines as the free numbers can be notes, and for the lines of one byte
+  abbrev pub Enough : ℕ → ℕ → Type 0
+  Enough used noted = noteSize * (used + room) + mostLine * cap ≤ noteSize * size + mostLine * (noteRoom + noted)
+
+  abbrev pub Small : List ℕ → Type 0
+  Small notes = (i : ℕ) → i < length notes → getD notes i 0 < putLimit
+
+  small-front : (xs ys : List ℕ) → Small (xs ++ ys) → Small xs
+  small-front xs ys h i l = rw (List·getD-append xs ys 0 i l) at (h i (rw length-append (omega arith)))
+
+  small-rest : (xs ys : List ℕ) → Small (xs ++ ys) → Small ys
+  small-rest xs ys h i l = rw (getD-append-add xs ys i 0) at (h (length xs + i) (rw length-append (omega arith)))
+
   -- what comes behind a scan
   abbrev pub afterScan : ℕ → Progress → List ℕ → Scanned → Heard
   afterScan used p bytes s =
       cond (eqb (s .refusal) 0)
-      (heardWhile roomy (used + length (scanLines s)) (behindScan p s) (drop (s .taken) bytes))
+      (heardWhile (roomIn size) (used + length (noteLines (s .notes))) (behindScan p s) (drop (s .taken) bytes))
       (stopped (behindScan p s) (s .refusal))
 
-  pub heard-scan :
+  -- nothing is noted, and nothing taken
+  stays :
       (used : ℕ) (p : Progress) (bytes : List ℕ)
-      → roomy used ≡ true
-      → heardWhile roomy used p bytes
-      ≡ behind (scanned (p .matcher) bytes .taken) (scanLines (scanned (p .matcher) bytes))
-      (afterScan used p bytes (scanned (p .matcher) bytes))
-  unfolding heardWhile scanned
-  heard-scan used p [] r =
-      rw (quiet (p .matcher .now .at)) (heard-by (progress-by refl (omega arith)) refl refl refl)
-  heard-scan used p (byte ∷ bytes) r =
-      by-test (eqb (strokeRefusal (p .matcher)) 0)
-      (λ e. by-test (silent (strokeAnswer (p .matcher) byte))
-      (λ f. rw (r, e, f, silent-lines (suc (p .matcher .now .at)) (strokeAnswer (p .matcher) byte) f, add-zero used, ← add-assoc (p .total))
-      (ap (behind 1 []) (heard-scan used (onward p byte) bytes r) ∙ heard-by refl (omega arith) refl refl))
-      (λ f. rw (r, e, f, taken-later (p .matcher) byte (eqb-true _ _ e))))
-      (λ e. rw (r, e, scanned, e, quiet (p .matcher .now .at)) (heard-by (progress-by refl (omega arith)) refl refl refl))
+      → heardWhile (roomIn size) used p bytes ≡ behind 0 (noteLines []) (afterScan used p bytes (halted (p .matcher) 0))
+  unfolding noteLines
+  stays used p bytes = rw (add-zero, add-zero) (heard-by refl (omega arith) refl refl)
 
+  -- the lines of the notes of a byte
+  noted-lines :
+      (p : Progress) (byte : ℕ)
+      → Small (notesAt (p .matcher) byte)
+      → noteSize * length (linesAt p byte) ≤ mostLine * length (notesAt (p .matcher) byte)
+  noted-lines p byte h =
+      rw (notes-lines (suc (p .matcher .now .at)) (strokeAnswer (p .matcher) byte)) at (lines-length (notesAt (p .matcher) byte) h)
+
+  -- what bytes bring is what a scan of them takes, and then what comes behind it
+  abbrev HeardAs : List ℕ → ℕ → Progress → Scanned → Type 0
+  HeardAs bytes used p s =
+      heardWhile (roomIn size) used p bytes ≡ behind (s .taken) (noteLines (s .notes)) (afterScan used p bytes s)
+
+  abbrev ScansAll : List ℕ → Type 0
+  ScansAll bytes =
+      (used noted : ℕ) (p : Progress)
+      → Enough used noted
+      → Small (scanned cap noted (p .matcher) bytes .notes)
+      → HeardAs bytes used p (scanned cap noted (p .matcher) bytes)
+
+  module _ (byte : ℕ) (bytes : List ℕ) (used noted : ℕ) (p : Progress) (roomy : roomIn size used ≡ true) where
+    -- the byte is refused
+    halts : (n : ℕ) → strokeRefusal (p .matcher) ≡ n → eqb n 0 ≡ false → HeardAs (byte ∷ bytes) used p (halted (p .matcher) n)
+    unfolding heardWhile noteLines
+    halts n f e = rw (roomy, f, e, add-zero) (heard-by refl (omega arith) refl refl)
+
+    -- the byte is taken, and others behind it
+    goes :
+        (s : Scanned)
+        → strokeRefusal (p .matcher) ≡ 0
+        → HeardAs bytes (used + length (linesAt p byte)) (onward p byte) s
+        → HeardAs (byte ∷ bytes) used p (scan.onward (notesAt (p .matcher) byte) (strokeAnswer (p .matcher) byte .comparisons) s)
+    unfolding heardWhile
+    goes s e h =
+        rw (
+          roomy,
+          e,
+          answer-lines (suc (p .matcher .now .at)) (strokeAnswer (p .matcher) byte) (s .notes),
+          length-append (linesAt p byte) (noteLines (s .notes)),
+          ← add-assoc used (length (linesAt p byte)),
+          ← add-assoc (p .total) (strokeAnswer (p .matcher) byte .comparisons),
+        )
+        (ap (behind 1 (linesAt p byte)) h ∙ heard-by refl (omega arith) (sym (append-assoc (linesAt p byte) (noteLines (s .notes)) _)) refl)
+
+  scans-more : (byte : ℕ) (bytes : List ℕ) → ScansAll bytes → ScansAll (byte ∷ bytes)
+  unfolding scanned
+  scans-more byte bytes more used noted p enough =
+      let w : Matcher = p .matcher in
+      by-test (roomFor cap noted)
+      (λ r.
+      let roomy : roomIn size used ≡ true = le-leb (used + room) size (omega (arith, leb-true (noted + noteRoom) cap r)) in
+      by-test (eqb (strokeRefusal w) 0)
+      (λ e. rw (r, e)
+      (λ small.
+      let n = notesAt w byte in
+      let rest = scanned cap (noted + length n) (afterStroke w byte) bytes in
+      let lines = noted-lines p byte (small-front n (rest .notes) small) in
+      goes byte bytes used noted p roomy rest (eqb-true _ _ e)
+      (more (used + length (linesAt p byte)) (noted + length n) (onward p byte) (omega (arith, lines)) (small-rest n (rest .notes) small))))
+      (λ e. rw (r, e) (λ small. halts byte bytes used noted p roomy (strokeRefusal w) refl e)))
+      (λ r. rw r (λ small. stays used p (byte ∷ bytes)))
+
+  pub heard-scan : (bytes : List ℕ) → ScansAll bytes
+  unfolding scanned
+  heard-scan [] = λ used noted p enough small. stays used p []
+  heard-scan (byte ∷ bytes) = scans-more byte bytes (heard-scan bytes)
+
+module _ (roomy : ℕ → Bool) where
   -- with room, a byte is taken or refused
   pub heard-moves :
       (used : ℕ) (p : Progress) (bytes : List ℕ)

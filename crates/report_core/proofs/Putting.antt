@@ -2,7 +2,6 @@
 -- Assumes nothing.
 use Prim.Native.Nat.{ℕ, _+_, _*_, _≤_, _<_}
 use mathlib.Core.Path.{_≡_, refl, sym, _∙_, ap}
-use mathlib.Core.Bool.{true, false}
 use mathlib.Core.List.{List, _++_, append-assoc}
 use native.Mathlib.Nat.{lt-of-not-le}
 use native.Mathlib.Decide.{decLe}
@@ -16,7 +15,7 @@ use Rattle.report_lines.specs.declared.Put.the-variants.{Full, Next}
 use Rattle.refusal.specs.declared.Verdict.{Verdict}
 use Rattle.refusal.specs.declared.Verdict.the-variants.{Accepted}
 use Rattle.refusal.specs.Number.{number}
-use Rattle.report_lines.specs.Lines.{lineX, lineE, room, hasRoom, placed, written}
+use Rattle.report_lines.specs.Lines.{lineX, lineE, room, placed, written}
 use Rattle.report_lines.proofs.Room.{refusal-length}
 use Rattle.report_core.specs.Calls.{lastLines, lastPlaced, lastWritten}
 
@@ -28,7 +27,7 @@ pub record PutAt (entry : List ℕ) (at : ℕ) (lines : List ℕ) (end : ℕ) (e
   pub behind : drop end exit ≡ drop end entry
 
 module _ (entry : List ℕ) (at : ℕ) (lines : List ℕ) where
-  laid :
+  pub laid :
       (exit : List ℕ)
       → at ≤ length entry
       → exit ≡ take at entry ++ lines ++ drop (at + length lines) entry
@@ -71,26 +70,6 @@ module _ (entry : List ℕ) (at : ℕ) (lines : List ℕ) where
             let e : at + length lines ≡ end = cc (placed-next r) in
             rw e at (put-done r exit w)
         | no r ↦ let z : _≡_ {A = ℕ} 0 1 = cc (placed-full (lt-of-not-le r)) in absurd (omega arith)
-      ]
-
-  -- lines were put where there is room
-  pub put-room : (end : ℕ) → Next end ≡ placed entry at lines → hasRoom entry at ≡ true
-  put-room end p =
-      elim (decLe (at + room) (length entry)) [
-        | yes r ↦ le-leb (at + room) (length entry) r
-        | no r ↦ let z : _≡_ {A = ℕ} 0 1 = cc (placed-full (lt-of-not-le r)) in absurd (omega arith)
-      ]
-
-  pub put-none :
-      (exit : List ℕ)
-      → exit ≡ written entry at lines
-      → Full ≡ placed entry at lines
-      → (hasRoom entry at ≡ false) × (exit ≡ entry)
-  unfolding written
-  put-none exit w p =
-      elim (decLe (at + room) (length entry)) [
-        | yes r ↦ let z : _≡_ {A = ℕ} 0 1 = cc (placed-next r) in absurd (omega arith)
-        | no r ↦ let full = lt-leb (at + room) (length entry) (lt-of-not-le r) in (full, rw full at w)
       ]
 
 -- more lines behind the first

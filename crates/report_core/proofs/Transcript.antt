@@ -1,37 +1,23 @@
--- What one byte, and a run of strokes, come to: lines, t and comparisons.
+-- What one byte, and a run of strokes, come to: t and comparisons.
 -- Assumes nothing.
 use Prim.Native.Nat.{ℕ, suc, _+_, _*_, _≤_, _<_}
-use mathlib.Core.Path.{_≡_, refl, sym, _∙_}
+use mathlib.Core.Path.{_≡_, sym, _∙_}
 use mathlib.Core.Bool.{true, true≢false}
-use mathlib.Core.List.{List, [], _∷_, flatMap}
+use mathlib.Core.List.{List, [], _∷_}
 use native.Mathlib.Omega.{arith}
 use lib.Dec.{eqb}
 use lib.ListN.{length}
-use borrow.Author.Tests.{eqb-true, eqb-false}
+use borrow.Author.Tests.{eqb-true, eqb-false, le-leb}
 use Rattle.ladder.proofs.Levels.{levels-bound}
-use Rattle.lists.proofs.Laws.{and-left, and-right}
 use Rattle.stage.specs.Stage.{maxTaken}
-use Rattle.matcher.specs.declared.Ring.{Ring}
-use Rattle.matcher.specs.declared.Ring.the-variants.{Silent, At}
 use Rattle.matcher.specs.declared.Matcher.{Matcher}
-use Rattle.matcher.specs.declared.Answer.{Answer}
 use Rattle.matcher.specs.Matcher.{matcherFits}
-use Rattle.matcher.specs.Stroke.{noAnswer, strokeRefusal, strokeAnswer, afterStroke}
-use Rattle.matcher.specs.Scan.{silentRing, silent, Scanned, scanned}
+use Rattle.matcher.specs.Stroke.{strokeRefusal, strokeAnswer, afterStroke}
+use Rattle.matcher.specs.Scan.{noteRoom, roomFor, notesAt, Scanned, scanned}
 use Rattle.lists.proofs.Cases.{by-test}
 use Rattle.matcher.proofs.Ceiling.{ceiling}
 use Rattle.matcher.proofs.Sound.{sound, card-of, taken-below}
-use Rattle.report_lines.specs.Lines.{ringLines, reportLines}
 use Rattle.report_core.specs.Progress.{mostComparisons}
-
--- an answer with no ring and no set has no lines
-silent-ring : (t : ℕ) (ring : Ring) → silentRing ring ≡ true → ringLines t ring ≡ []
-silent-ring t Silent e = refl
-silent-ring t (At start) e = absurd (true≢false (sym e))
-
-pub silent-lines : (t : ℕ) (a : Answer) → silent a ≡ true → reportLines t a ≡ []
-unfolding reportLines flatMap
-silent-lines t a e = rw (silent-ring t (a .ring) (and-left (silentRing (a .ring)) _ e), eqb-true (a .asides) 0 (and-right (silentRing (a .ring)) _ e))
 
 -- A byte that is taken: the watch has no misfit and is not spent, and t rises by one.
 pub taken-fits : (w : Matcher) → strokeRefusal w ≡ 0 → matcherFits w ≡ true
@@ -46,37 +32,40 @@ pub taken-few : (w : Matcher) (byte : ℕ) → strokeRefusal w ≡ 0 → strokeA
 taken-few w byte e =
     omega (arith, ceiling w byte, levels-bound (w .signature .length) (card-of (sound w (taken-fits w e)) .short))
 
-pub quiet : (t : ℕ) → reportLines t noAnswer ≡ []
-quiet t = silent-lines t noAnswer refl
-
--- How t, the comparisons and the bytes taken hang together in a run of strokes.
-pub record Ran (w : Matcher) (bytes : List ℕ) (r : Scanned) : Type 0 where
+-- How t, the comparisons and the bytes taken hang together in a run of strokes; with room for the notes of one byte, a byte is taken or refused.
+pub record Ran (size used : ℕ) (w : Matcher) (bytes : List ℕ) (r : Scanned) : Type 0 where
   pub later : r .matcher .now .at ≡ w .now .at + r .taken
   pub within : w .now .at ≤ maxTaken → r .matcher .now .at ≤ maxTaken
   pub few : r .comparisons ≤ mostComparisons * r .taken
-  pub moves : 0 < length bytes → r .refusal ≡ 0 → 0 < r .taken
+  pub moves : used + noteRoom ≤ size → 0 < length bytes → r .refusal ≡ 0 → 0 < r .taken
 
-pub ran : (w : Matcher) (bytes : List ℕ) → Ran w bytes (scanned w bytes)
+pub ran : (size used : ℕ) (w : Matcher) (bytes : List ℕ) → Ran size used w bytes (scanned size used w bytes)
 unfolding scanned
-ran w [] = record { later = omega arith; within = λ l. l; few = omega arith; moves = λ l z. l }
-ran w (byte ∷ bytes) =
-    by-test (eqb (strokeRefusal w) 0)
-    (λ e. let z = eqb-true (strokeRefusal w) 0 e in
-    by-test (silent (strokeAnswer w byte))
-    (λ f. let q = ran (afterStroke w byte) bytes in
-    rw (e, scanned, f)
+ran size used w [] = record { later = omega arith; within = λ l. l; few = omega arith; moves = λ r l z. l }
+ran size used w (byte ∷ bytes) =
+    by-test (roomFor size used)
+    (λ r. by-test (eqb (strokeRefusal w) 0)
+    (λ e.
+    let z = eqb-true (strokeRefusal w) 0 e in
+    let q = ran size (used + length (notesAt w byte)) (afterStroke w byte) bytes in
+    rw (r, scanned, e)
     (record {
       later = omega (arith, q .later, taken-later w byte z);
       within = λ l. q .within (omega (arith, taken-later w byte z, taken-below w z));
       few = omega (arith, q .few, taken-few w byte z);
-      moves = λ l n. omega arith;
+      moves = λ r l n. omega arith;
     }))
-    (λ f. rw (e, scanned, f)
+    (λ e. rw (r, scanned, e)
     (record {
-      later = taken-later w byte z ∙ omega arith;
-      within = λ l. omega (arith, taken-later w byte z, taken-below w z);
-      few = omega (arith, taken-few w byte z);
-      moves = λ l n. omega arith;
+      later = omega arith;
+      within = λ l. l;
+      few = omega arith;
+      moves = λ r l n. absurd (eqb-false (strokeRefusal w) 0 e n);
     })))
-    (λ e. rw (e, scanned)
-    (record { later = omega arith; within = λ l. l; few = omega arith; moves = λ l n. absurd (eqb-false (strokeRefusal w) 0 e n) }))
+    (λ r. rw (r, scanned)
+    (record {
+      later = omega arith;
+      within = λ l. l;
+      few = omega arith;
+      moves = λ l m n. absurd (true≢false (sym (le-leb (used + noteRoom) size l) ∙ r));
+    }))

@@ -1,4 +1,5 @@
 pub mod Output
 pub mod Progress
+pub mod Turn
 pub mod Calls
 pub mod Sent

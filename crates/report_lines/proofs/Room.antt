@@ -15,7 +15,7 @@ use Rattle.stage.specs.declared.Progression.{Progression}
 use Rattle.matcher.specs.declared.Answer.{Answer}
 use Rattle.stage.specs.Stages.{stageCount}
 use Rattle.report_lines.specs.declared.Put.the-variants.{Next}
-use Rattle.report_lines.specs.Stored.{mostItem, mostLine}
+use Rattle.report_lines.specs.Sizes.{mostItem, mostLine}
 use Rattle.report_lines.specs.Lines.{item, line, lineA, lineX, ringLines, reportLines, room, placed, written}
 use Rattle.decimal.specs.Decimal.{putLimit}
 use Rattle.decimal.proofs.Digits.{put-length}
@@ -33,13 +33,13 @@ pub record NarrowSet (a : Progression) : Type 0 where
   pub step : a .step < putLimit
   pub many : a .many < putLimit
 
-aside-length : (t : ℕ) (a : Progression) → t < putLimit → NarrowSet a → length (lineA t a) ≤ mostLine
+pub aside-length : (t : ℕ) (a : Progression) → t < putLimit → NarrowSet a → length (lineA t a) ≤ mostLine
 unfolding line flatMap
 aside-length t a h n =
     simp length-append
     (omega (arith, item-length t h, item-length (a .first) (n .first), item-length (a .step) (n .step), item-length (a .many) (n .many)))
 
-ring-length :
+pub ring-length :
     (t : ℕ) (ring : Ring)
     → t < putLimit
     → ((start : ℕ) → ring ≡ At start → start < putLimit)

@@ -1,14 +1,16 @@
 -- The lines of the printing program, as bytes (document 01, "The printing program"), and what a lent buffer holds once they are put into it.
-use Prim.Native.Nat.{ℕ, _+_}
+use Prim.Native.Nat.{ℕ, _+_, _*_, _/_}
 use mathlib.Core.Bool.{Bool, cond}
 use mathlib.Core.List.{List, [], _∷_, _++_, flatMap}
 use lib.ListN.{length, take, drop}
-use lib.Dec.{leb}
+use lib.Dec.{leb, eqb}
 use Rattle.decimal.specs.Decimal.{decimal}
 use Rattle.matcher.specs.declared.Ring.{Ring}
 use Rattle.matcher.specs.declared.Ring.the-variants.{Silent, At}
 use Rattle.stage.specs.declared.Progression.{Progression}
 use Rattle.matcher.specs.declared.Answer.{Answer}
+use Rattle.matcher.specs.Scan.{noteSize}
+use Rattle.report_lines.specs.Sizes.{mostLine}
 use Rattle.report_lines.specs.declared.Put.{Put}
 use Rattle.report_lines.specs.declared.Put.the-variants.{Full, Next}
 
@@ -45,6 +47,20 @@ ringLines t (At start) = lineR t start
 unfoldable pub reportLines : ℕ → Answer → List ℕ
 reportLines t answer = ringLines t (answer .ring) ++ flatMap (lineA t) (take (answer .asides) (answer .sets))
 
+-- The line of a note (`notesOf`, matcher/specs/Scan.antt): kind 0 is a ring, any other a set set aside.
+abbrev pub noteLine : ℕ → ℕ → ℕ → ℕ → ℕ → List ℕ
+noteLine kind t first step many =
+    cond (eqb kind 0) (lineR t first) (lineA t (record { first = first; step = step; many = many }))
+
+-- The lines of a list of notes, five numbers each. Numbers behind the last whole note count for nothing.
+unfoldable pub noteLines : List ℕ → List ℕ
+noteLines [] = []
+noteLines (a ∷ []) = []
+noteLines (a ∷ b ∷ []) = []
+noteLines (a ∷ b ∷ c ∷ []) = []
+noteLines (a ∷ b ∷ c ∷ d ∷ []) = []
+noteLines (kind ∷ t ∷ first ∷ step ∷ many ∷ notes) = noteLine kind t first step many ++ noteLines notes
+
 -- The room that a buffer must have from the place on: the lines of one byte are never longer.
 abbrev pub room : ℕ
 room = 2048
@@ -59,3 +75,16 @@ placed buf at lines = cond (hasRoom buf at) (Next (at + length lines)) Full
 -- The buffer with the lines at their place, all else as it was, or as it was where it is full.
 unfoldable pub written : List ℕ → ℕ → List ℕ → List ℕ
 written buf at lines = cond (hasRoom buf at) (take at buf ++ lines ++ drop (at + length lines) buf) buf
+
+-- For the lines of notes it must have the room of as many of the longest lines.
+abbrev pub hasNotesRoom : List ℕ → ℕ → List ℕ → Bool
+hasNotesRoom buf at notes = leb (at + mostLine * (length notes / noteSize)) (length buf)
+
+-- The place behind their lines, or that the buffer is full.
+unfoldable pub notesPlaced : List ℕ → ℕ → List ℕ → Put
+notesPlaced buf at notes = cond (hasNotesRoom buf at notes) (Next (at + length (noteLines notes))) Full
+
+-- The buffer with their lines at their place, all else as it was, or as it was where it is full.
+unfoldable pub notesWritten : List ℕ → ℕ → List ℕ → List ℕ
+notesWritten buf at notes =
+    cond (hasNotesRoom buf at notes) (take at buf ++ noteLines notes ++ drop (at + length (noteLines notes)) buf) buf

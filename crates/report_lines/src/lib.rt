@@ -1,29 +1,29 @@
 // The lines of the printing program (document 01, "The printing program"), put into a lent buffer.
 ghost use mathlib.Core.Path.{_≡_};
-ghost use Prim.Native.Nat.{_+_, _≤_, min};
+ghost use Prim.Native.Nat.{_+_, _*_, _≤_};
 ghost use lib.ListN.{length};
 ghost use lib.Dec.{leb};
-ghost use Rattle.stage.specs.Stages.{stageCount};
+ghost use Rattle.lists.specs.Stored.{Stored};
 ghost use Rattle.report_lines.specs.Lines.{
   item,
   line,
-  lineA,
   lineX,
   lineE,
-  ringLines,
-  reportLines,
+  noteLine,
   room,
   placed,
   written,
+  notesPlaced,
+  notesWritten,
 };
-ghost use Rattle.report_lines.specs.Stored.{mostItem, mostNumbers, mostLine, Stored};
-use matcher::Answer;
-use matcher::Ring;
-use stage::Progression;
-use stage::STAGES;
+ghost use Rattle.report_lines.specs.Sizes.{mostItem, mostNumbers, mostLine};
+use matcher::NOTE;
 
 // The room that a buffer must have from the place on, whatever is to be put there: the lines of one byte are never longer.
 pub const ROOM: usize = 2048;
+
+// The longest line.
+pub const MOST_LINE: usize = 86;
 
 // Where the next line goes, or that the buffer has too little room and is as it was.
 pub enum Put {
@@ -56,25 +56,17 @@ fn put_line(buf: &mut [u8], at: usize, letter: u8, numbers: &[u64]) -> usize
     next + 1
 }
 
-// The line of a set aside.
-fn put_aside(buf: &mut [u8], at: usize, t: u64, set: Progression) -> usize
+// The line of a note.
+fn put_note(buf: &mut [u8], at: usize, kind: u64, t: u64, first: u64, step: u64, many: u64) -> usize
     requires { ⌜ at + mostLine ≤ length (now buf) ⌝ }
-    ensures { λ r. ⌜ Stored (now (buf .entry)) at (lineA t set) mostLine r (now (buf .exit)) ⌝ }
+    ensures { λ r. ⌜ Stored (now (buf .entry)) at (noteLine kind t first step many) mostLine r (now (buf .exit)) ⌝ }
 {
-    let numbers = [t, set.first, set.step as u64, set.many as u64];
-    put_line(buf, at, b'A', &numbers)
-}
-
-// The line of a ring, if a start rang.
-fn put_ring(buf: &mut [u8], at: usize, t: u64, ring: Ring) -> usize
-    requires { ⌜ at + mostLine ≤ length (now buf) ⌝ }
-    ensures { λ r. ⌜ Stored (now (buf .entry)) at (ringLines t ring) mostLine r (now (buf .exit)) ⌝ }
-{
-    if let Ring::At(start) = ring {
-        let numbers = [t, start];
+    if kind == 0 {
+        let numbers = [t, first];
         return put_line(buf, at, b'R', &numbers);
     }
-    at
+    let numbers = [t, first, step, many];
+    put_line(buf, at, b'A', &numbers)
 }
 
 // Whether a buffer of so many bytes has the room from a place on.
@@ -87,31 +79,38 @@ fn has_room(size: usize, at: usize) -> bool
     at <= size - ROOM
 }
 
-// How many sets of an answer count: there is a place for one of each stage.
-fn counted(asides: u32) -> usize
-    ensures { λ n. ⌜ n ≡ min asides stageCount ⌝ }
+// Whether it has the room of so many of the longest lines.
+fn has_lines(size: usize, at: usize, lines: usize) -> bool
+    ensures { λ ok. ⌜ ok ≡ leb (at + mostLine * lines) size ⌝ }
 {
-    let n = asides as usize;
-    if n < STAGES {
-        return n;
+    if size < at {
+        return false;
     }
-    STAGES
+    lines <= (size - at) / MOST_LINE
 }
 
-// The lines of the answer to byte t, at a place of the buffer.
-pub fn put_report(buf: &mut [u8], at: usize, t: u64, answer: Answer) -> Put
-    ensures { λ r. ⌜ r ≡ placed (now (buf .entry)) at (reportLines t answer) ⌝ }
-    ensures { λ _. ⌜ now (buf .exit) ≡ written (now (buf .entry)) at (reportLines t answer) ⌝ }
+// The lines of notes, at a place of the buffer. Numbers behind the last whole note count for nothing.
+pub fn put_notes(buf: &mut [u8], at: usize, notes: &[u64]) -> Put
+    ensures { λ r. ⌜ r ≡ notesPlaced (now (buf .entry)) at (now (notes .entry)) ⌝ }
+    ensures { λ _. ⌜ now (buf .exit) ≡ notesWritten (now (buf .entry)) at (now (notes .entry)) ⌝ }
 {
-    if !has_room(buf.len(), at) {
+    let many = notes.len() / NOTE;
+    if !has_lines(buf.len(), at, many) {
         return Put::Full;
     }
-    let ring = answer.ring;
-    let mut next = put_ring(buf, at, t, ring);
-    let asides = counted(answer.asides);
+    let mut next = at;
     let mut i: usize = 0;
-    while i < asides {
-        next = put_aside(buf, next, t, answer.sets[i]);
+    while i < many {
+        let n = NOTE * i;
+        next = put_note(
+            buf,
+            next,
+            notes[n],
+            notes[n + 1],
+            notes[n + 2],
+            notes[n + 3],
+            notes[n + 4],
+        );
         i = i + 1;
     }
     Put::Next(next)

@@ -1,4 +1,4 @@
--- What it says of a stage that it is no misfit: it lists nothing, or one start, or an arithmetic progression of starts of the right age.
+-- What document 01's rules say of a stage: it lists nothing, or one start, or an arithmetic progression of starts of the right age.
 -- Assumes nothing.
 use Prim.Native.Nat.{ℕ, suc, _+_, _-_, _*_, _≤_, _<_}
 use mathlib.Core.Path.{_≡_, refl, _∙_, ap}
@@ -14,7 +14,7 @@ use Rattle.lists.proofs.Laws.{and-left, and-right}
 use Rattle.stage.specs.declared.Mark.{Mark}
 use Rattle.stage.specs.declared.Gap.{Gap}
 use Rattle.stage.specs.declared.Stage.{Stage}
-use Rattle.stage.specs.Stage.{noStage, noGap, origin, sameMark, sameGap, ageFits, noneFits, oneFits, manyFit, stageFits, alone}
+use Rattle.stage.specs.Stage.{noStage, noGap, origin, sameMark, sameGap, ageFits, noneFits, oneFits, manyFit, shapeFits, alone}
 use Rattle.lists.proofs.Cases.{by-test, each}
 
 -- A start of stage i that is old enough at `lo` and young enough at `hi`.
@@ -121,8 +121,8 @@ module _ (m i t : ℕ) (s : Stage) where
         ends = eqb-true _ _ (q .1 .1 .1 .1 .1 .1 .0) ∙ ap (λ n. s .first .at + n * s .step .length) (omega arith);
       }
 
-  pub fit-of : stageFits m i t s ≡ true → Fit m i t t s
-  unfolding stageFits
+  pub fit-of : shapeFits m i t s ≡ true → Fit m i t t s
+  unfolding shapeFits
   fit-of e =
       by-test (eqb (s .held) 0)
       (λ z. idle (none-of (eqb-true _ _ z) (rw z at e)))
@@ -133,8 +133,8 @@ module _ (m i t : ℕ) (s : Stage) where
       (λ o. single (one-of l (eqb-true _ _ o) (rw o at r)))
       (λ o. several (many-of l (eqb-false _ _ z) (eqb-false _ _ o) (rw o at r))))
 
-  pub fits-of : Fit m i t t s → stageFits m i t s ≡ true
-  unfolding stageFits noneFits oneFits manyFit
+  pub fits-of : Fit m i t t s → shapeFits m i t s ≡ true
+  unfolding shapeFits noneFits oneFits manyFit
   fits-of (idle e) = rw e (rw (same-self empty))
   fits-of (single q) =
       rw (q .shape)
@@ -156,7 +156,7 @@ module _ (m i t : ℕ) (s : Stage) where
         ne-eqb (s .held) 1 (omega arith),
         ne-eqb (s .step .length) 0 (omega arith),
         eq-eqb _ _ ends,
-        stageFits,
+        shapeFits,
         lt-ltb i (levels m) (q .below),
         below-fits _ (q .first-print),
         below-fits _ (q .last-print),

@@ -1,4 +1,4 @@
--- A stage that fits at t fits at t + 1, once its ripe start was taken off and with a newcomer of the right age.
+-- A stage that fits by document 01's rules at t fits so at t + 1, once its ripe start was taken off and with a newcomer of the right age.
 -- Assumes nothing.
 use Prim.Native.Nat.{ℕ, suc, _+_, _-_, _*_, _≤_, _<_}
 use mathlib.Core.Path.{_≡_, refl, _∙_, ap}
@@ -80,7 +80,7 @@ module _ (m i t : ℕ) (s : Stage) where
       let zero-more : q .more ≡ 0 = omega arith in
       let ends : s .last .at ≡ s .first .at + s .step .length = rw zero-more at (q .ends) ∙ omega arith in
       rw (ne-eqb (s .held) 1 (omega arith), e, takenOff)
-      (single (record { below = q .below; shape = refl; print = joined-below key _ _ _; aged = omega arith })))
+      (single (record { below = q .below; shape = refl; print = q .last-print; aged = omega arith })))
       (λ e.
       let three : s .held ≡ 2 → ⊥ = eqb-false _ _ e in
       let ends : s .last .at ≡ s .first .at + suc (suc (q .more - 1)) * s .step .length =

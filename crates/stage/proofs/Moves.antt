@@ -31,7 +31,7 @@ module _ (key : Key) (s : Stage) where
   off-past n h = rw (ne-eqb (s .held) 0 n, lt-leb second maxTaken h)
 
   module _ (room : second ≤ maxTaken) where
-    pub off-two : s .held ≡ 2 → takeOffOf key s ≡ alone (forward key (s .first) (s .step))
+    pub off-two : s .held ≡ 2 → takeOffOf key s ≡ alone (s .last)
     unfolding takeOffOf takenOff
     off-two e = rw (e, le-leb second maxTaken room)
 

@@ -4,7 +4,7 @@ use Prim.Native.Nat.{ℕ, suc, _+_, _-_, _*_, min}
 use mathlib.Core.Bool.{Bool, true, cond, not, _&&_}
 use lib.Dec.{ltb, leb, eqb}
 use Rattle.fingerprint.specs.declared.Key.{Key}
-use Rattle.fingerprint.specs.Fingerprint.{printFits, same, empty, joined, rest}
+use Rattle.fingerprint.specs.Fingerprint.{printFits, same, empty, joined, joinedTimes, rest}
 use Rattle.ladder.specs.Prefix.{levels, prefixLength}
 use Rattle.stage.specs.declared.Mark.{Mark}
 use Rattle.stage.specs.declared.Gap.{Gap}
@@ -80,11 +80,22 @@ manyFit short long t s =
 abbrev listedFits : ℕ → ℕ → ℕ → Stage → Bool
 listedFits short long t s = cond (eqb (s .held) 1) (oneFits short long t s) (manyFit short long t s)
 
--- Stage i of a watch over m bytes at t: by the held rules below k, and "a stage past k-1" is all 0.
-unfoldable pub stageFits : ℕ → ℕ → ℕ → Stage → Bool
-stageFits m i t s =
+-- Document 01's rules for stage i of a watch over m bytes at t: by the held rules below k, and "a stage past k-1" is all 0.
+unfoldable pub shapeFits : ℕ → ℕ → ℕ → Stage → Bool
+shapeFits m i t s =
     cond (eqb (s .held) 0) (noneFits s)
     (ltb i (levels m) && listedFits (prefixLength m i) (prefixLength m (suc i)) t s)
+
+-- "A stage with two or more held starts must have the F_last that comes out of F_first by held - 1 joins of the step print" (document 02, A.7).
+unfoldable pub lastFits : Key → Stage → Bool
+lastFits key s =
+    cond (ltb 1 (s .held))
+    (same (s .last .print) (joinedTimes key (s .held - 1) (s .first .print) (s .step .print) (s .step .length)))
+    true
+
+-- Stage i of a watch over m bytes at t is no misfit.
+unfoldable pub stageFits : Key → ℕ → ℕ → ℕ → Stage → Bool
+stageFits key m i t s = shapeFits m i t s && lastFits key s
 
 -- The block between two marks: "the print of a gap comes from F_last and the newcomer's F".
 abbrev pub gapTo : Key → Mark → Mark → Gap
@@ -102,7 +113,7 @@ alone mark = record { held = 1; first = mark; last = mark; step = noGap }
 unfoldable pub takenOff : Key → Stage → Stage
 takenOff key s =
     cond (eqb (s .held) 1) noStage
-    (cond (eqb (s .held) 2) (alone (forward key (s .first) (s .step)))
+    (cond (eqb (s .held) 2) (alone (s .last))
     (record { held = s .held - 1; first = forward key (s .first) (s .step); last = s .last; step = s .step }))
 
 -- "Into a stage that lists none or one, the start is added. With two or more .. the newcomer is added if its gap to the last start equals

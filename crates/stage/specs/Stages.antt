@@ -6,8 +6,9 @@ use mathlib.Core.List.{List}
 use lib.Dec.{leb, eqb}
 use lib.ListN.{length, getD, set, replicate}
 use Rattle.lists.specs.Lists.{every, tabulate}
+use Rattle.fingerprint.specs.declared.Key.{Key}
 use Rattle.stage.specs.declared.Stage.{Stage}
-use Rattle.stage.specs.Stage.{noStage, stageFits}
+use Rattle.stage.specs.Stage.{noStage, shapeFits, stageFits}
 
 -- Places for stages: 0 to 19.
 abbrev pub stageCount : ℕ
@@ -36,12 +37,19 @@ stagesOf f = tabulate f stageCount
 abbrev pub noStages : Stages
 noStages = replicate stageCount noStage
 
-abbrev pub fitsAt : ℕ → ℕ → Stages → ℕ → Bool
-fitsAt m t stages i = stageFits m i t (stageAt stages i)
+abbrev pub fitsAt : Key → ℕ → ℕ → Stages → ℕ → Bool
+fitsAt key m t stages i = stageFits key m i t (stageAt stages i)
 
 -- Each stage of a watch over m bytes fits at t.
-abbrev pub stagesFit : ℕ → ℕ → Stages → Bool
-stagesFit m t stages = every (fitsAt m t stages) stageCount
+abbrev pub stagesFit : Key → ℕ → ℕ → Stages → Bool
+stagesFit key m t stages = every (fitsAt key m t stages) stageCount
+
+-- Each fits by document 01's rules alone, which keep every number in its range.
+abbrev pub shapeAt : ℕ → ℕ → Stages → ℕ → Bool
+shapeAt m t stages i = shapeFits m i t (stageAt stages i)
+
+abbrev pub shapesFit : ℕ → ℕ → Stages → Bool
+shapesFit m t stages = every (shapeAt m t stages) stageCount
 
 -- "a start below c" (document 02, A.1) is a misfit: whether a stage lists none.
 abbrev pub listedFrom : ℕ → Stage → Bool

@@ -1,13 +1,15 @@
 // One stage of a watch (document 01, "Ladder" and "Misfit"): the starts that it lists, when it misfits, and how starts come and go.
 ghost use mathlib.Core.Path.{_≡_};
 ghost use mathlib.Core.Bool.{true};
-ghost use Prim.Native.Nat.{_+_, _-_, _≤_, _<_};
+ghost use Prim.Native.Nat.{ℕ, _+_, _-_, _≤_, _<_};
 ghost use Rattle.fingerprint.specs.declared.Key.{Key};
 ghost use Rattle.ladder.specs.Prefix.{prefixLength};
-ghost use Rattle.stage.specs.Stage.{maxTaken, maxCount, origin, nowFits, noGap, noStage, sameMark, sameGap, ageFits, noneFits, oneFits, manyFit, stagePrintsFit, reachFits, stageFits, gapTo, forward, alone, takeOffOf, canEnter, entryOf, ripeAt, quietUntil};
-ghost use Rattle.stage.specs.Stages.{stagesFit, listedFrom};
+ghost use Rattle.powers.specs.Powers.{powersOf};
+ghost use Rattle.stage.specs.Stage.{maxTaken, maxCount, origin, nowFits, noGap, noStage, sameMark, sameGap, ageFits, noneFits, oneFits, manyFit, stagePrintsFit, reachFits, shapeFits, lastFits, gapTo, forward, alone, takeOffOf, canEnter, entryOf, ripeAt, quietUntil};
+ghost use Rattle.stage.specs.Stages.{listedFrom};
 use fingerprint::Fingerprint;
 use fingerprint::Key;
+use powers::Powers;
 
 // The most bytes that a watch takes, and so the last place in a stream.
 pub const MAX_TAKEN: u64 = 1099511627775;
@@ -275,9 +277,9 @@ impl Stage {
         step.fits()
     }
 
-    // Whether the stage is no misfit as stage i of a watch over m bytes, at t.
-    pub fn fits(self, m: u32, i: u32, t: u64) -> bool
-        ensures { λ ok. ⌜ ok ≡ stageFits m i t self ⌝ }
+    // Whether document 01's rules hold of stage i of a watch over m bytes, at t.
+    pub fn shape_fits(self, m: u32, i: u32, t: u64) -> bool
+        ensures { λ ok. ⌜ ok ≡ shapeFits m i t self ⌝ }
     {
         if self.held == 0 {
             return self.none_fits();
@@ -291,6 +293,22 @@ impl Stage {
             return self.one_fits(short, long, t);
         }
         self.many_fit(short, long, t)
+    }
+
+    // Held 2 or more: F_last is F_first with the step print joined held - 1 times (document 02, A.7), in as many joins as held has binary
+    // digits, twice. What is said of powers holds of those of any key, so of all there are.
+    pub fn last_fits(self, powers: Powers) -> bool
+        ensures { λ ok. ⌜ ((key : Key) (most : ℕ) → powers ≡ powersOf key most → ok ≡ lastFits key self) ⌝ }
+    {
+        if self.held < 2 {
+            return true;
+        }
+        let first = self.first.print;
+        let last = self.last.print;
+        let step = self.step;
+        let shift = powers.raise(step.length);
+        let reached = first.join_times(step.print, shift, self.held - 1);
+        last.equals(reached)
     }
 
     // The stage without its first start. A stage that holds none, or whose second start is past the last place, loses all.
@@ -307,11 +325,11 @@ impl Stage {
         if MAX_TAKEN - self.first.at < (step.length as u64) {
             return Stage::none();
         }
-        let first = self.first.forward(key, step);
-        if self.held == 2 {
-            return Stage::alone(first);
-        }
         let last = self.last;
+        if self.held == 2 {
+            return Stage::alone(last);
+        }
+        let first = self.first.forward(key, step);
         Stage {
             held: self.held - 1,
             first,
@@ -436,19 +454,4 @@ impl Stage {
         }
         distance(1, self.first.at + length)
     }
-}
-
-// Whether each stage of a watch over m bytes fits at t.
-pub fn stages_fit(stages: [Stage; STAGES], m: u32, t: u64) -> bool
-    ensures { λ ok. ⌜ ok ≡ stagesFit m t stages ⌝ }
-{
-    let mut i: u32 = 0;
-    while (i as usize) < STAGES {
-        let stage = stages[i as usize];
-        if !stage.fits(m, i, t) {
-            return false;
-        }
-        i = i + 1;
-    }
-    true
 }

@@ -6,4 +6,3 @@ pub mod Resuming
 pub mod Claims
 pub mod Theorem
 pub mod Scans
-pub mod Readings

@@ -1,11 +1,9 @@
 -- Several strokes in a row, as calls of a list and as a history: what a scan (`scanned`, matcher/specs/Scan.antt) stands for.
-use Prim.Native.Nat.{ℕ, _+_}
-use mathlib.Core.Bool.{cond}
-use mathlib.Core.List.{List, [], _∷_}
+use Prim.Native.Nat.{ℕ, suc, _+_}
+use mathlib.Core.List.{List, [], _∷_, _++_}
 use Rattle.matcher.specs.declared.Matcher.{Matcher}
-use Rattle.matcher.specs.declared.Answer.{Answer}
 use Rattle.matcher.specs.Stroke.{strokeAnswer, afterStroke}
-use Rattle.matcher.specs.Scan.{silent}
+use Rattle.matcher.specs.Scan.{notesOf}
 use Rattle.whole_run.specs.History.{History}
 use Rattle.whole_run.specs.Run.{core, Call, stroke}
 
@@ -19,10 +17,10 @@ abbrev pub struck : Matcher → List ℕ → History
 struck w [] = []
 struck w (byte ∷ bytes) = record { byte = byte; answer = strokeAnswer w byte } ∷ struck (afterStroke w byte) bytes
 
--- the answers of a history that have a ring or a set
-abbrev pub reportsOf : History → List Answer
-reportsOf [] = []
-reportsOf (x ∷ h) = cond (silent (x .answer)) (reportsOf h) (x .answer ∷ reportsOf h)
+-- the notes of the answers of a history, one byte's behind another's, where t was so much before its first byte
+abbrev pub notesFrom : ℕ → History → List ℕ
+notesFrom t [] = []
+notesFrom t (x ∷ h) = notesOf (suc t) (x .answer) ++ notesFrom (suc t) h
 
 -- all comparisons of a history
 abbrev pub totalOf : History → ℕ

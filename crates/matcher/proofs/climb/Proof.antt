@@ -13,7 +13,7 @@ use Rattle.stage.specs.Stage.{ripeAt, canEnter}
 use Rattle.stage.specs.Stages.{stageCount, stageAt, withStage}
 use Rattle.matcher.specs.declared.Answer.{Answer}
 use Rattle.matcher.specs.Stroke.{noAnswer, withAside, compared, matches, descended, walkedFrom}
-use Rattle.matcher.specs.Skip.{Shifts}
+use Rattle.powers.specs.Powers.{Shifts}
 use Rattle.matcher.proofs.Rounds.{here, below, not-last, count-fits, one-less, set-fits, Turn, turn-begin, turn-unripe, turn-shift, turn-dropped, turn-rung, turn-entered, turn-end, climbed-dropped, climbed-rung, climbed-entered, first-shift}
 use Rattle.matcher.proofs.climb.Statement.{statement}
 use Rattle.matcher.proofs.climb.Tie as tie

@@ -3,8 +3,10 @@ use native.Mathlib.Omega.{arith}
 use lib.ListN.{length-set}
 use borrow.Author.Needs.{needs}
 use Rattle.report_lines.specs.Lines.{item}
-use Rattle.report_lines.specs.Stored.{mostItem, Stored}
-use Rattle.report_lines.proofs.Storing.{byte, number, run, same-size}
+use Rattle.lists.specs.Stored.{Stored}
+use Rattle.report_lines.specs.Sizes.{mostItem}
+use Rattle.lists.proofs.Storing.{one, run, same-size}
+use Rattle.report_lines.proofs.Storing.{number}
 use Rattle.report_lines.proofs.put_item.Statement.{statement}
 use Rattle.report_lines.proofs.put_item.Tie as tie
 
@@ -22,7 +24,7 @@ stored :
     (c : tie.After-put)
     → let a = c .before .before .before .args in
     Stored (a .buf .now) (a .at) (item (a .n)) mostItem (c .put .result) (c .put .last .0)
-stored c = run (byte _ _ _) (number (omega arith) (simp length-set (omega arith)) (c .put .ensures .0) (c .put .ensures .1))
+stored c = run (one _ _ _) (number (omega arith) (simp length-set (omega arith)) (c .put .ensures .0) (c .put .ensures .1))
 
 same-length : tie.Need-same-length
 same-length c = same-size (stored (c .before .before))

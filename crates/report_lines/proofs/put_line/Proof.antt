@@ -6,8 +6,9 @@ use native.Mathlib.Omega.{arith}
 use lib.ListN.{length, take, length-set}
 use lib.Seq.{take-all}
 use Rattle.report_lines.specs.Lines.{item, line}
-use Rattle.report_lines.specs.Stored.{mostItem, Stored}
-use Rattle.report_lines.proofs.Storing.{byte, nothing, run, run-more, at-most, same-size}
+use Rattle.lists.specs.Stored.{Stored}
+use Rattle.report_lines.specs.Sizes.{mostItem}
+use Rattle.lists.proofs.Storing.{one, nothing, run, run-more, at-most, same-size}
 use Rattle.report_lines.proofs.put_line.Statement.{statement}
 use Rattle.report_lines.proofs.put_line.Tie as tie
 
@@ -67,7 +68,7 @@ unfolding line
 returns c =
     let l = c .before .loop in
     let items = rw (take-all (l .i) (c .before .before .before .before .args .numbers .now) (c .loop-test .left)) at (l .inv .1) in
-    at-most (omega arith) (run (run (byte _ _ _) items) (byte _ _ _))
+    at-most (omega arith) (run (run (one _ _ _) items) (one _ _ _))
 
 pub put-line-spec : {M : Type 1} → statement M
 put-line-spec =

@@ -5,52 +5,73 @@ use mathlib.Core.Bool.{true}
 use native.Mathlib.Omega.{arith}
 use borrow.Author.Tests.{not-true, not-false}
 use Rattle.matcher.specs.Matcher.{matcherFits}
-use Rattle.matcher.proofs.Running.{scan-none, scan-fits, scan-misfit, parts}
+use Rattle.matcher.proofs.Running.{scan-none, scan-small, scan-fits, scan-misfit, parts}
 use Rattle.matcher.proofs.Matcher.scan.Statement.{statement}
 use Rattle.matcher.proofs.Matcher.scan.Tie as tie
 
--- what the first test tells
-judged : (c : tie.Else1) → matcherFits (c .before .before .before .args .self) ≡ true
+-- the function's begin, and what the first test tells
+abbrev start : tie.After-fits2 → tie.Start
+start c = c .before .before .before
+
+judged : (c : tie.Else1) → matcherFits (start (c .before) .args .self) ≡ true
 judged c = sym (c .before .fits2 .ensures) ∙ not-false _ (c .if1 .left)
 
 fits-requires : tie.Need-fits-requires
 fits-requires c κs = search needs
 
-silent-requires : tie.Need-silent-requires
-silent-requires c κs = search needs
+ended-requires : tie.Need-ended-requires
+ended-requires c κs = search needs
 
 returns : tie.Need-returns
 returns c =
-    let args = c .before .before .before .before .args in
+    let args = start (c .before .before) .args in
     let misfit = sym (c .before .before .fits2 .ensures) ∙ not-true _ (c .before .if1 .taken) in
-    parts (scan-misfit (args .self) (args .input .now) (args .from) _ misfit (c .silent .ensures))
+    rw (c .ended .ensures) (parts (scan-misfit (args .self) (args .input .now) (args .from) (args .notes .now) misfit))
 
-silent-requires-2 : tie.Need-silent-requires-2
-silent-requires-2 c κs = search needs
+ended-requires-2 : tie.Need-ended-requires-2
+ended-requires-2 c κs = search needs
 
 returns-2 : tie.Need-returns-2
 returns-2 c =
-    let args = c .before .before .before .before .before .args in
-    parts
-    (scan-fits (args .self) (args .input .now) (args .from) (c .silent2 .result) (judged (c .before .before))
-    (rw (c .silent2 .ensures) (scan-none (args .self) (args .input .now) (args .from) (c .before .if2 .taken))))
+    let args = start (c .before .before .before) .args in
+    rw (c .ended2 .ensures)
+    (parts (scan-small (args .self) (args .input .now) (args .from) (args .notes .now) (judged (c .before .before)) (c .before .if2 .taken)))
 
-run-requires : tie.Need-run-requires
-run-requires c κs = (judged (c .before), omega arith)
+ended-requires-3 : tie.Need-ended-requires-3
+ended-requires-3 c κs = search needs
 
 returns-3 : tie.Need-returns-3
 returns-3 c =
-    let args = c .before .before .before .before .before .args in
-    parts (scan-fits (args .self) (args .input .now) (args .from) _ (judged (c .before .before)) (c .run .ensures))
+    let d = c .before .before in
+    let args = start (d .before .before) .args in
+    rw (c .ended3 .ensures)
+    (parts
+    (scan-none (args .self) (args .input .now) (args .from) (args .notes .now) (judged (d .before)) (d .if2 .left) (c .before .if3 .taken)))
+
+run-requires : tie.Need-run-requires
+run-requires c κs = (judged (c .before .before .before), omega arith, c .before .before .if2 .left)
+
+same-length : tie.Need-same-length
+same-length c = search needs
+
+returns-4 : tie.Need-returns-4
+returns-4 c =
+    let d = c .before .before .before .before .before in
+    let args = start (d .before .before) .args in
+    parts
+    (scan-fits (args .self) (args .input .now) (args .from) (args .notes .now) (judged (d .before)) (d .if2 .left) _ _ (c .before .before .run .ensures))
 
 pub scan-spec : {M : Type 1} → statement M
 scan-spec =
     tie.close
     (tie.spec
     fits-requires
-    silent-requires
+    ended-requires
     returns
-    silent-requires-2
+    ended-requires-2
     returns-2
+    ended-requires-3
+    returns-3
     run-requires
-    returns-3)
+    same-length
+    returns-4)

@@ -6,19 +6,30 @@ use mathlib.Core.Bool.{true, true≢false}
 use borrow.Author.Tests.{not-true, not-false}
 use Rattle.refusal.specs.declared.Verdict.the-variants.{Accepted}
 use Rattle.refusal.specs.Number.{number}
+use Rattle.powers.specs.Powers.{powersOf}
+use Rattle.signature.specs.Signature.{maxLength}
+use Rattle.signature.proofs.Card.{SoundCard}
+use Rattle.stage.specs.Stages.{shapesFit}
 use Rattle.matcher.specs.Shared.{sharedFits}
-use Rattle.matcher.proofs.Sound.{sound, card-of, stages-fit}
+use Rattle.matcher.proofs.Sound.{shapely-of}
 use Rattle.matcher.proofs.Quiet.{sooner}
-use Rattle.matcher.proofs.Shared.{brought, shared-key, shared-own, brings-misfit, brings-spent, brings-walk, brings-quiet}
+use Rattle.matcher.proofs.Shared.{brought, shared-key, brings-misfit, brings-spent, brings-walk, brings-quiet}
 use Rattle.matcher.proofs.Matcher.stroke_shared.Statement.{statement}
 use Rattle.matcher.proofs.Matcher.stroke_shared.Tie as tie
 
--- the watch fits among those that share the key
+-- the watch fits among those that share the key, where the powers are the key's; and its numbers are in their range
 fit :
     (c : tie.Else1)
     → let args = c .before .before .before .before .before .before .before .before .before .args in
-    sharedFits (args .powers .key) (args .since) (args .self) ≡ true
-fit c = sym (c .before .before .shared-fits .ensures .0) ∙ not-false _ (c .if1 .left)
+    args .powers ≡ powersOf (args .powers .key) maxLength
+    → sharedFits (args .powers .key) (args .since) (args .self) ≡ true
+fit c e = sym (c .before .before .shared-fits .ensures .0 _ _ e) ∙ not-false _ (c .if1 .left)
+
+shaped :
+    (c : tie.Else1)
+    → let w = c .before .before .before .before .before .before .before .before .before .args .self in
+    SoundCard (w .signature) × (shapesFit (w .signature .length) (w .now .at) (w .stages) ≡ true)
+shaped c = shapely-of _ (c .before .before .shared-fits .ensures .1 .0 (not-false _ (c .if1 .left)))
 
 shared-fits-requires : tie.Need-shared-fits-requires
 shared-fits-requires c κs = search needs
@@ -33,7 +44,7 @@ returns c =
     let refused = c .refused .ensures in
     brought (args .powers) (args .since) (args .self) (args .byte) (c .refused .result)
     (λ e.
-    let misfit = sym (shared-fits .ensures .0) ∙ not-true _ (c .before .if1 .taken) in
+    let misfit = sym (shared-fits .ensures .0 _ _ e) ∙ not-true _ (c .before .if1 .taken) in
     brings-misfit _ _ _ _ _ misfit (ap number (refused .0)) (refused .1) (refused .2))
     (λ e. refused .1)
 
@@ -46,7 +57,7 @@ returns-2 c =
     let args = else1 .before .before .before .before .before .before .before .before .before .args in
     let refused = c .refused2 .ensures in
     brought (args .powers) (args .since) (args .self) (args .byte) (c .refused2 .result)
-    (λ e. brings-spent _ _ _ (fit else1) _ _ (c .before .if2 .taken) (ap number (refused .0)) (refused .1) (refused .2))
+    (λ e. brings-spent _ _ _ (fit else1 e) _ _ (c .before .if2 .taken) (ap number (refused .0)) (refused .1) (refused .2))
     (λ e. refused .1)
 
 next-mark-requires : tie.Need-next-mark-requires
@@ -76,22 +87,18 @@ returns-3 c =
     let shared-fits = else1 .before .before .shared-fits in
     let quiet = c .quiet .ensures in
     brought (args .powers) (args .since) (args .self) (args .byte) (c .quiet .result)
-    (λ e. brings-quiet _ _ _ (fit else1) _ _ (if2 .left) (ap number (quiet .0))
-    (sooner (args .self) (rw (next-mark .ensures) at (c .before .if4 .taken)) (shared-fits .ensures .1 (not-false _ (else1 .if1 .left)) (if3 .taken)))
+    (λ e. brings-quiet _ _ _ (fit else1 e) _ _ (if2 .left) (ap number (quiet .0))
+    (sooner (args .self) (rw (next-mark .ensures) at (c .before .if4 .taken)) (shared-fits .ensures .1 .1 (not-false _ (else1 .if1 .left)) (if3 .taken)))
     (rw (of-byte .ensures) at (sym (equals .ensures) ∙ not-true _ (if3 .taken))) (quiet .1) (quiet .2))
     (λ e. quiet .1)
 
 shifts-requires : tie.Need-shifts-requires
-shifts-requires c κs =
-    let else1 = c .before .before .before .before .before in
-    card-of (sound (else1 .before .before .before .before .before .before .before .before .before .args .self) (shared-own _ _ _ (fit else1))) .short
+shifts-requires c κs = search needs
 
 climb-requires : tie.Need-climb-requires
 climb-requires c κs =
-    let else1 = c .before .before .before .before .before .before in
-    let args = else1 .before .before .before .before .before .before .before .before .before .args in
-    let q = sound (args .self) (shared-own _ _ _ (fit else1)) in
-    rw (c .before .before .next-mark .ensures) (card-of q .long, card-of q .short, refl, omega arith, stages-fit (args .self) q)
+    let q = shaped (c .before .before .before .before .before .before) in
+    rw (c .before .before .next-mark .ensures) (q .0 .long, q .0 .short, refl, omega arith, q .1)
 
 returns-4 : tie.Need-returns-4
 returns-4 c =
@@ -101,12 +108,13 @@ returns-4 c =
     let if2 = c .before .before .before .before .before .if2 in
     let shifts = c .before .shifts in
     let climb = c .climb in
-    let own = shared-key (args .powers .key) (args .since) (args .self) (fit else1) in
+    let short = shaped else1 .0 .short in
     brought (args .powers) (args .since) (args .self) (args .byte)
     (record { verdict = Accepted; moved = true; walk = climb .result })
     (λ e.
-    let walk = rw (next-mark .ensures) at (climb .ensures (rw own (shifts .ensures _ e))) in
-    brings-walk _ _ _ (fit else1) _ _ (if2 .left) refl (ap (λ w. w .stages) walk) (ap (λ w. w .answer) walk))
+    let own = shared-key (args .powers .key) (args .since) (args .self) (fit else1 e) in
+    let walk = rw (next-mark .ensures) at (climb .ensures (rw own (shifts .ensures _ _ e short short))) in
+    brings-walk _ _ _ (fit else1 e) _ _ (if2 .left) refl (ap (λ w. w .stages) walk) (ap (λ w. w .answer) walk))
     (λ e. absurd (true≢false e))
 
 pub stroke-shared-spec : {M : Type 1} → statement M

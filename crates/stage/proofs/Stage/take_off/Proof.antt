@@ -33,17 +33,16 @@ returns-3 c =
     let a = c .before .before .before .before .before .before .before .before .before .args in
     c .none3 .ensures ∙ sym (off-past (a .key) (a .self) (λ e. omega arith) (omega arith))
 
-forward-requires : tie.Need-forward-requires
-forward-requires c κs = search needs
-
 alone-requires : tie.Need-alone-requires
 alone-requires c κs = search needs
 
 returns-4 : tie.Need-returns-4
 returns-4 c =
     let a = c .before .before .before .before .before .before .before .before .before .before .before .before .args in
-    rw (c .before .before .before .forward .ensures) at (c .alone .ensures)
-    ∙ sym (off-two (a .key) (a .self) (omega arith) (c .before .if4 .taken))
+    c .alone .ensures ∙ sym (off-two (a .key) (a .self) (omega arith) (c .before .if4 .taken))
+
+forward-requires : tie.Need-forward-requires
+forward-requires c κs = search needs
 
 sub-t9 : tie.Need-sub-t9
 sub-t9 c = search needs
@@ -51,7 +50,7 @@ sub-t9 c = search needs
 returns-5 : tie.Need-returns-5
 returns-5 c =
     let a = c .before .before .before .before .before .before .before .before .before .before .before .before .before .args in
-    rw (c .before .before .before .before .forward .ensures) (sym (off-more (a .key) (a .self) (omega arith) (omega arith)))
+    rw (c .before .forward .ensures) (sym (off-more (a .key) (a .self) (omega arith) (omega arith)))
 
 pub take-off-spec : {M : Type 1} → statement M
 take-off-spec =
@@ -64,8 +63,8 @@ take-off-spec =
     cast-if3
     none-requires-3
     returns-3
-    forward-requires
     alone-requires
     returns-4
+    forward-requires
     sub-t9
     returns-5)
