@@ -1,19 +1,15 @@
-#!/usr/bin/env python3
-"""What the trial program of the reader of MIDI files must write.
+"""Cases of the call `midi`, which reads a passage from a Standard MIDI File: files, bells and buffers.
 
-What is tried is replayed: the cases, their names and the printed lines are written from
-the program (crates/midi_trials), the files from what the names say. What comes out is
-worked out by midi.py; beside each case stands the number that document 02's A.2 and A.6 give it.
+What must come back is worked out by midi.py from document 02's A.2 and A.6: the number of the refusal, how many
+strokes there are, and the whole buffer. Beside each case that is written out stands the number that these give it.
 
-    midi_trials.py > crates/midi_trials/stdout
+GROUPS has the groups of cases. A case is its words, the call, what it takes and what it must hand back.
 """
 
-import sys
+import random
+import re
 
-sys.dont_write_bytecode = True
-
-from midi import read
-from trials import mixed
+import midi
 
 ROOM = 20                       # of the buffer, where a case has none of its own
 
@@ -36,7 +32,6 @@ def track(*events, length=None, letters=b"MTrk"):
 def of(*events):
     """The file of these events."""
     return header() + track(*events)
-
 
 
 def message(status, *data, time=b"\0"):
@@ -300,58 +295,222 @@ SMALL = (header() + chunk(b"XFIH", b"\x7F") + chunk(b"MTrK", b"")
 SMALL_CALL = 55, 70, 2          # the bells and the room
 
 
-# ---- Lines ---------------------------------------------------------------------
+# ---- Damages -------------------------------------------------------------------
 
-class Tally:
-    def __init__(self):
-        self.met, self.digest = [], 0
-
-    def mix(self, *values):
-        for value in values:
-            self.digest = mixed(self.digest, value)
-
-    def call(self, file, low=0, high=127, room=ROOM):
-        number, strokes = read(file, low, high, room)
-        self.met.append(number)
-        self.mix(number, len(strokes), *strokes)
-        return number, strokes
-
-    def counts(self):
-        counts = [self.met.count(number) for number in (0, 15, 16, 17, 7)]
-        assert sum(counts) == len(self.met)
-        return (" accepted %d, refused %d with 15, %d with 16, %d with 17, %d with 7, digest %d, "
-                "failures 0" % (*counts, self.digest))
+STRANGE = [0, 1, 0x2F, 0x3C, 0x40, 0x7F, 0x80, 0x90, 0x9F, 0xC0, 0xD0, 0xEF, 0xF0, 0xF1, 0xF7, 0xFE, 0xFF]
 
 
-def cases(tally):
-    for due, name, *call in CASES:
-        number, strokes = tally.call(*call)
-        assert number == due, name
-        print("%s: %d, strokes %d:%s, the rest as it was"
-              % (name, number, len(strokes), "".join(" %d" % key for key in strokes)))
+def replaced(rng, file, i):
+    return file[:i] + bytes([rng.choice(STRANGE + [rng.randrange(256)])]) + file[i + 1:]
 
 
-def cut(tally):
-    fronts = [SMALL[:n] for n in range(len(SMALL) + 1)]
-    print("every front of a small file:"
-          + "".join(" %d" % tally.call(front, *SMALL_CALL)[0] for front in fronts))
+def inserted(rng, file, i):
+    return file[:i] + bytes([rng.choice(STRANGE)]) + file[i:]
 
 
-def replaced():
+def removed(rng, file, i):
+    return file[:i] + file[i + 1:]
+
+
+def cut(rng, file, i):
+    return file[:i]
+
+
+def doubled(rng, file, i):
+    return file[:i] + file[max(0, i - rng.randrange(1, 9)):]
+
+
+def with_chunk(rng, file, i):
+    """Another chunk before the track."""
+    inside = rng.randbytes(rng.choice([0, 1, 7]))
+    length = len(inside) + rng.choice([0, 0, 0, 1, 2 ** 31])
+    return file[:14] + rng.choice([b"XFIH", b"MThd"]) + length.to_bytes(4, "big") + inside + file[14:]
+
+
+def long_header(rng, file, i):
+    """Bytes in the header past six, and behind the track."""
+    return file[:4] + b"\0\0\0\x08" + file[8:14] + rng.randbytes(2) + file[14:] + rng.randbytes(3)
+
+
+def long_end(rng, file, i):
+    """The last byte, which is the length of the end of track, and so many bytes."""
+    inside = rng.randbytes(rng.choice([1, 2, 4]))
+    return file[:-1] + bytes([len(inside)]) + inside
+
+
+def without_status(rng, file, i):
+    """A status behind an event of another kind is left out."""
+    places = [found.end() for found in re.finditer(rb"[\xF7\x00-\x7F][\x00-\x7F](?=[\x80-\xEF])", file)]
+    return removed(rng, file, rng.choice(places)) if places else file
+
+
+def of_length(rng, file, i):
+    """The track's length is that of what stands there."""
+    return file[:18] + max(0, len(file) - 22).to_bytes(4, "big") + file[22:]
+
+
+DAMAGES = [replaced, replaced, replaced, inserted, removed, cut, doubled, with_chunk, long_header,
+           long_end, without_status]
+
+
+def damaged(rng, file):
+    """Near the file's front, near its end, or anywhere."""
+    for _ in range(rng.choice([1, 1, 1, 2, 4])):
+        first, last = rng.choice([(0, 30), (len(file) - 8, len(file)), (0, len(file)), (22, len(file))])
+        i = min(len(file), rng.randint(max(0, min(first, last)), last))
+        file = rng.choice(DAMAGES)(rng, file, i)
+    return of_length(rng, file, 0) if rng.random() < 0.4 else file
+
+
+# ---- Calls ---------------------------------------------------------------------
+
+def buffer_of(room):
+    """A buffer of so many bytes, none of which is a key."""
+    return bytes(255 - i % 128 for i in range(room))
+
+
+def wanted(low, high, file, buffer):
+    """What the call must hand back: the verdict, how many strokes there are, and the buffer."""
+    number, strokes = midi.read(file, low, high, len(buffer))
+    # "buffer bytes behind the strokes are untouched"; document 01: "A refusal returns its number only; watch,
+    # half-made card and buffers are what they were"
+    return number, len(strokes), strokes + buffer[len(strokes):]
+
+
+def call(words, file, low=0, high=127, room=ROOM):
+    parts = low, high, file, buffer_of(room)
+    return words, "midi", parts, wanted(*parts)
+
+
+# ---- Groups --------------------------------------------------------------------
+
+def written_out():
+    for number, words, *rest in CASES:
+        case = call(words, *rest)
+        assert case[-1][0] == number, words     # what midi.py reads is what the case says
+        yield case
+
+
+def every_room():
+    """Buffers of every size up to one more than the strokes need."""
+    for _, words, file, *bells in CASES:
+        bells = bells[:2] or [0, 127]
+        needed = len(midi.read(file, *bells, ROOM)[1])
+        for room in range(needed + 2):
+            yield call("%s, into %d bytes" % (words, room), file, *bells, room)
+
+
+def cut_short():
+    """Every front of every file."""
+    for _, words, file, *rest in CASES + [(0, "a small file", SMALL, *SMALL_CALL)]:
+        for n in range(len(file) + 1):
+            yield call("%s, the first %d bytes" % (words, n), file[:n], *rest)
+
+
+def byte_replaced():
+    """Each byte of a small file by all others, each of the other files by strange ones."""
     for i, byte in enumerate(SMALL):
-        seen = Tally()
         for more in range(1, 256):
-            seen.call(SMALL[:i] + bytes([(byte + more) % 256]) + SMALL[i + 1:], *SMALL_CALL)
-        print("byte %d replaced:%s" % (i, seen.counts()))
+            file = SMALL[:i] + bytes([(byte + more) % 256]) + SMALL[i + 1:]
+            yield call("byte %d raised by %d" % (i, more), file, *SMALL_CALL)
+    rng = random.Random(2)
+    for _, words, file, *rest in CASES:
+        for i in range(len(file)):
+            yield call("%s, byte %d replaced" % (words, i), replaced(rng, file, i), *rest)
 
 
-def midi_trials():
-    tally = Tally()
-    cases(tally)
-    cut(tally)
-    print("so far:" + tally.counts())
-    replaced()
+def every_bell():
+    """Bells at each key and beside it, also the lowest above the highest, and above all keys."""
+    limits = [0, 1, 58, 59, 60, 61, 62, 63, 64, 65, 66, 126, 127, 128, 129, 254, 255]
+    struck = of(*THREE, END)
+    lifted = of(NOTE, running(65, 0), running(58, 0), running(64, 1), END)
+    ends = of(note(0), running(127, 1), END)
+    for words, file in (("60 to 64", struck), ("60 and 64, others lifted", lifted), ("0 and 127", ends)):
+        for low in limits:
+            for high in limits:
+                yield call("%s, bells %d to %d" % (words, low, high), file, low, high)
 
 
-if __name__ == "__main__":
-    midi_trials()
+def large():
+    """More strokes and longer events than two bytes can count."""
+    for many in (65535, 65536, 70000):
+        file = of(NOTE, *[running(62, 64)] * (many - 1), END)
+        for room in (many, many - 1, many + 1):
+            yield call("%d strokes into %d bytes" % (many, room), file, room=room)
+        yield call("the last of %d strokes outside" % many, of(*[NOTE] * (many - 1), note(62), END), 60, 60, many)
+    for size in (65535, 65536, 300000):
+        inside = bytes(size)
+        for words, event in (("meta", meta(1, inside, size=4)), ("exclusive", exclusive(0xF0, inside, size=4))):
+            yield call("%s event of %d bytes" % (words, size), of(NOTE, event, NOTE, END))
+        yield call("another chunk of %d bytes" % size, header() + chunk(b"XFIH", inside) + NOTED)
+        yield call("a header of %d bytes more" % size, header(skipped=inside) + NOTED)
+
+
+# ---- Files drawn at random -------------------------------------------------------
+
+DATA = [0, 1, 59, 60, 61, 64, 126, 127]
+TIMES = [0, 0, 1, 127, 128, 16383, 16384, 2 ** 21 - 1, 2 ** 21, 2 ** 28 - 1]
+
+
+def drawn_quantity(rng, value):
+    """In as many bytes as it needs, or in more."""
+    needed = max(1, -(-value.bit_length() // 7))
+    return quantity(value, rng.choice([needed, needed, rng.randint(needed, 4)]))
+
+
+def drawn_block(rng):
+    """The inside of a meta or exclusive event, its length before it."""
+    inside = rng.randbytes(rng.choice([0, 0, 1, 2, 5, 127, 128, 200]))
+    return drawn_quantity(rng, len(inside)) + inside
+
+
+def drawn_events(rng, count):
+    """Events of every kind, half of them notes; a status is left out where it may be, more often than not."""
+    running_status, track = None, b""
+    for _ in range(count):
+        track += drawn_quantity(rng, rng.choice(TIMES))
+        kind = rng.choice([9, 9, 9, 9, 9, 9, 8, 10, 11, 12, 13, 14, 15, 16])
+        if kind > 14:
+            head = [255, rng.choice([0, 1, 3, 0x2E, 0x30, 0x51, 127, 128, 255])]
+            track += bytes(head if kind == 15 else [rng.choice([0xF0, 0xF7])]) + drawn_block(rng)
+            running_status = None
+            continue
+        status = running_status if running_status and rng.random() < 0.5 else 16 * kind + rng.choice([0, 1, 9, 15])
+        if status != running_status or rng.random() < 0.3:
+            track += bytes([status])
+        running_status = status
+        track += bytes(rng.choice(DATA) for _ in range(1 if 0xC0 <= status <= 0xDF else 2))
+    return track
+
+
+def drawn_file(rng):
+    """A file that reads well, but for its bells."""
+    others = [chunk(rng.choice([b"XFIH", b"MThd", b"mtrk", rng.randbytes(4)]), rng.randbytes(rng.choice([0, 1, 9])))
+              for _ in range(rng.choice([0, 0, 0, 1, 2]))]
+    front = header(division=rng.randrange(65536), skipped=rng.randbytes(rng.choice([0, 0, 0, 1, 7])))
+    inside = drawn_events(rng, rng.choice([0, 1, 3, 10, 40]))
+    return front + b"".join(others) + track(inside, END) + rng.randbytes(rng.choice([0, 0, 0, 1, 9]))
+
+
+def at_random(seed=1, count=700, damages=9):
+    """Files drawn at random and damaged; into buffers of some size, that may be too short."""
+    rng = random.Random(seed)
+    for n in range(count):
+        file = drawn_file(rng)
+        needed = len(midi.read(file, 0, 127, len(file))[1])
+        for i in range(damages + 1):
+            bells = rng.choice([(0, 127), (0, 127), (0, 255), (1, 126), (59, 64), (127, 0), (64, 60)])
+            room = rng.choice([needed, needed, needed + 1, max(0, needed - 1), 0, len(file)])
+            words = "file %d of seed %d%s" % (n, seed, ", damage %d" % i if i else "")
+            yield call(words, damaged(rng, file) if i else file, *bells, room)
+
+
+GROUPS = [
+    ("MIDI files, written out", written_out),
+    ("MIDI files, buffers of every size", every_room),
+    ("MIDI files, every front", cut_short),
+    ("MIDI files, bytes replaced", byte_replaced),
+    ("MIDI files, bells", every_bell),
+    ("MIDI files, large", large),
+    ("MIDI files, at random", at_random),
+]
