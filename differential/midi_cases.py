@@ -3,7 +3,7 @@
 What must come back is worked out by midi.py from document 02's A.2 and A.6: the number of the refusal, how many
 strokes there are, and the whole buffer. Beside each case that is written out stands the number that these give it.
 
-GROUPS has the groups of cases. A case is its words, the call, what it takes and what it must hand back.
+GROUPS has the groups of cases: (words, call, values).
 """
 
 import random
@@ -378,8 +378,7 @@ def wanted(low, high, file, buffer):
 
 
 def call(words, file, low=0, high=127, room=ROOM):
-    parts = low, high, file, buffer_of(room)
-    return words, "midi", parts, wanted(*parts)
+    return words, "midi", (low, high, file, buffer_of(room))
 
 
 # ---- Groups --------------------------------------------------------------------
@@ -387,7 +386,7 @@ def call(words, file, low=0, high=127, room=ROOM):
 def written_out():
     for number, words, *rest in CASES:
         case = call(words, *rest)
-        assert case[-1][0] == number, words     # what midi.py reads is what the case says
+        assert wanted(*case[2])[0] == number, words     # what midi.py reads is what the case says
         yield case
 
 
