@@ -1,7 +1,7 @@
 """Passages from Standard MIDI Files of format 0: document 02's A.2 and A.6, sentence by sentence.
 
 A file is taken apart by its grammar, as patterns of bytes. read() says what a call must
-answer: the number of the refusal, or 0, and the strokes.
+answer: the number of the refusal, or 0, and the strokes; call() what it must hand back.
 """
 
 import re
@@ -145,3 +145,11 @@ def read(file, low, high, room, refuses=outside):
         return refused.args[0], b""
     # "and 7 only after the whole file reads well"
     return (0, strokes) if len(strokes) <= room else (NO_SPACE, b"")
+
+
+def call(low, high, file, buffer):
+    """What the call must hand back: the verdict, how many strokes there are, and the buffer."""
+    number, strokes = read(file, low, high, len(buffer))
+    # "buffer bytes behind the strokes are untouched"; document 01: "A refusal returns its number
+    # only; watch, half-made card and buffers are what they were"
+    return number, len(strokes), strokes + buffer[len(strokes):]

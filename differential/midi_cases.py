@@ -3,7 +3,7 @@
 What must come back is worked out by midi.py from document 02's A.2 and A.6: the number of the refusal, how many
 strokes there are, and the whole buffer. Beside each case that is written out stands the number that these give it.
 
-GROUPS has the groups of cases: (words, call, values).
+CASES has the groups of cases: (words, call, values).
 """
 
 import random
@@ -12,6 +12,7 @@ import re
 import midi
 
 ROOM = 20                       # of the buffer, where a case has none of its own
+LENT = 65536                    # the longest buffer that the driver lends
 
 
 # ---- Files ---------------------------------------------------------------------
@@ -67,7 +68,7 @@ ENDED, NOTED = track(END), track(NOTE, END)
 LARGEST = 2 ** 32 - 1
 
 
-# ---- Cases: the number, the name, the file; then bells and room, where they are tried ----
+# ---- Files: the number, the name, the file; then bells and room, where they are tried ----
 
 CHUNKS = [
     (0, "header of 6 bytes", header() + ENDED),
@@ -286,7 +287,7 @@ LIFTED = [
     (16, "lifted, room for 2 of 3, without end", of(LIFT, *THREE), 60, 64, 2),
 ]
 
-CASES = CHUNKS + LENGTHS + EVENTS + BELLS + LIFTED
+FILES = CHUNKS + LENGTHS + EVENTS + BELLS + LIFTED
 
 # Two other chunks, the second one letter from a track; notes 60, 62 with velocity 0, 67.
 SMALL = (header() + chunk(b"XFIH", b"\x7F") + chunk(b"MTrK", b"")
@@ -369,14 +370,6 @@ def buffer_of(room):
     return bytes(255 - i % 128 for i in range(room))
 
 
-def wanted(low, high, file, buffer):
-    """What the call must hand back: the verdict, how many strokes there are, and the buffer."""
-    number, strokes = midi.read(file, low, high, len(buffer))
-    # "buffer bytes behind the strokes are untouched"; document 01: "A refusal returns its number only; watch,
-    # half-made card and buffers are what they were"
-    return number, len(strokes), strokes + buffer[len(strokes):]
-
-
 def call(words, file, low=0, high=127, room=ROOM):
     return words, "midi", (low, high, file, buffer_of(room))
 
@@ -384,15 +377,15 @@ def call(words, file, low=0, high=127, room=ROOM):
 # ---- Groups --------------------------------------------------------------------
 
 def written_out():
-    for number, words, *rest in CASES:
+    for number, words, *rest in FILES:
         case = call(words, *rest)
-        assert wanted(*case[2])[0] == number, words     # what midi.py reads is what the case says
+        assert midi.call(*case[2])[0] == number, words      # what midi.py reads is what the case says
         yield case
 
 
 def every_room():
     """Buffers of every size up to one more than the strokes need."""
-    for _, words, file, *bells in CASES:
+    for _, words, file, *bells in FILES:
         bells = bells[:2] or [0, 127]
         needed = len(midi.read(file, *bells, ROOM)[1])
         for room in range(needed + 2):
@@ -401,7 +394,7 @@ def every_room():
 
 def cut_short():
     """Every front of every file."""
-    for _, words, file, *rest in CASES + [(0, "a small file", SMALL, *SMALL_CALL)]:
+    for _, words, file, *rest in FILES + [(0, "a small file", SMALL, *SMALL_CALL)]:
         for n in range(len(file) + 1):
             yield call("%s, the first %d bytes" % (words, n), file[:n], *rest)
 
@@ -413,7 +406,7 @@ def byte_replaced():
             file = SMALL[:i] + bytes([(byte + more) % 256]) + SMALL[i + 1:]
             yield call("byte %d raised by %d" % (i, more), file, *SMALL_CALL)
     rng = random.Random(2)
-    for _, words, file, *rest in CASES:
+    for _, words, file, *rest in FILES:
         for i in range(len(file)):
             yield call("%s, byte %d replaced" % (words, i), replaced(rng, file, i), *rest)
 
@@ -432,11 +425,10 @@ def every_bell():
 
 def large():
     """More strokes and longer events than two bytes can count."""
-    for many in (65535, 65536, 70000):
+    for many, room in ((65535, 65535), (65536, 65536), (65536, 65535), (65537, LENT), (70000, LENT)):
         file = of(NOTE, *[running(62, 64)] * (many - 1), END)
-        for room in (many, many - 1, many + 1):
-            yield call("%d strokes into %d bytes" % (many, room), file, room=room)
-        yield call("the last of %d strokes outside" % many, of(*[NOTE] * (many - 1), note(62), END), 60, 60, many)
+        yield call("%d strokes into %d bytes" % (many, room), file, room=room)
+    yield call("the last of 65536 strokes outside", of(*[NOTE] * 65535, note(62), END), 60, 60, LENT)
     for size in (65535, 65536, 300000):
         inside = bytes(size)
         for words, event in (("meta", meta(1, inside, size=4)), ("exclusive", exclusive(0xF0, inside, size=4))):
@@ -504,7 +496,7 @@ def at_random(seed=1, count=700, damages=9):
             yield call(words, damaged(rng, file) if i else file, *bells, room)
 
 
-GROUPS = [
+CASES = [
     ("MIDI files, written out", written_out),
     ("MIDI files, buffers of every size", every_room),
     ("MIDI files, every front", cut_short),

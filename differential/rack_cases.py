@@ -5,8 +5,9 @@ What must come back on every field is worked out by rack_values.py. In a list of
 besides held against a ladder with unlimited lists of its own (reference.py) and a search over the bytes. Each call is
 made on the rack that must have come back of the call before it.
 
-GROUPS has the groups of cases: (words, call, values); in a list of calls besides a judgement, which stands in place of
-what must come back: a function of what came back that says what is amiss with it, None for nothing.
+CASES has the groups of cases: (words, call, values). A case of a list of calls has a judgement besides, which is asked in
+place of what must come back: a function of what came back, in the order of the calls, that says what is amiss with it,
+None for nothing.
 """
 
 import random
@@ -15,9 +16,10 @@ import inputs
 import values
 from calls import FIELDS, PLACES, SIZE, STAGES, STAGE_FIELDS, difference
 from card import LARGEST_KEY, LONGEST_PASSAGE, MISFIT, P, SMALLEST_KEY, SPENT, make_card
-from rack_values import ABSENT, FREE, FULL, HEAD, PLACE, RULES, TAKEN, with_place
+from rack_values import ABSENT, FREE, FULL, HEAD, PLACE, RULES, TAKEN, card_of, with_place
 from reference import LAST_T, Ladder
-from samples import LATE_PRINT, PAST_NARROW, TOP, change_words, changed, fed, listing_nothing, plain_card
+from rubbed_cases import F_FIRST, following, longest_watches, rubbed_watches
+from samples import LATE_PRINT, PAST_NARROW, TOP, change_words, changed
 
 
 def card_for(passage, key):
@@ -428,97 +430,27 @@ def each_number():
 
 # ---- F_last in racks (A.7) -----------------------------------------------------------------
 
-# Period and length of the passage, key, t at which the stream begins, bytes taken.
-RUBBED = [
-    (1, 8, 2, 0, 7), (1, 16, 3, 0, 15), (2, 16, 5, 0, 15), (3, 64, P - 1, 0, 60),
-    (7, 64, 1234567890, 0, 63), (1, 1000, 7, 0, 999), (7, 1000, 65599, 0, 985),
-    (2, 64, 2, PAST_NARROW - 6, 63), (3, 64, 46337, LAST_T - 62, 62),
-]
 RUBBED_NAME, OTHER_NAME, RUBBED_PLACE = 300, 7, 9
 
 
-def in_rack(watch, since=0):
+def in_rack(watch):
     """A rack with the card of a watch, at its t."""
     card, t, f = values.card_of(watch), watch[values.T], watch[values.F_T]
     rack = (card[1], t, f) + FREE * PLACES
-    return with_place(rack, RUBBED_PLACE, (RUBBED_NAME, since) + card + values.stages_of(watch))
-
-
-def byte_raised(number, byte, by):
-    """A number with one of its bytes raised."""
-    parts = bytearray(number.to_bytes(4, "little"))
-    parts[byte] = (parts[byte] + by) % 256
-    return int.from_bytes(parts, "little")
-
-
-def rubbed(stage):
-    """A stage with one byte of a print replaced."""
-    for field in ("F_last", "F_first", "step print"):
-        at = STAGE_FIELDS.index(field)
-        for byte, by in [(0, 1), (0, 255), (1, 51), (2, 102), (3, 1), (3, 127), (3, 128)]:
-            yield values.with_numbers(stage, [(at, byte_raised(stage[at], byte, by))])
-
-
-def rejoined(stage, key):
-    """A stage with other prints, from which F_last comes out; and such that one join is too many or too few."""
-    held, first, f_first, last, f_last, step, step_print = stage
-    for f, block in ((0, step_print), (1, step_print), (P - 1, step_print), (f_first, 0), (f_first, P - 1)):
-        for joins in (held - 1, held, held - 2) if held > 1 else (0,):
-            yield held, first, f, last, values.joined(f, key, block, step, joins), step, block
-    yield held, first, f_last, last, f_first, step, step_print
-    if held > 1 and held % 2:                   # every other start, with its own step print and with the old one
-        for block in (values.joined(step_print, key, step_print, step, 1), step_print):
-            yield held // 2 + 1, first, f_first, last, f_last, 2 * step, block
+    return with_place(rack, RUBBED_PLACE, (RUBBED_NAME, 0) + card + values.stages_of(watch))
 
 
 def rubbed_racks():
-    n = 0
-    for period, m, key, t, count in RUBBED:
-        passage = bytes(i % period for i in range(m))
-        watch = fed(listing_nothing(card_for(passage, key), t), passage[:count])
-        words = "period %d, length %d, key %d, from %d after %d" % (period, m, key, t, count)
-        yield from every_call(words, in_rack(watch, t), RUBBED_NAME, values.card_of(watch))
-        for i in range(len(values.tested_lengths(m)) - 1):
-            stage = values.stage_of(watch, i)
-            for other in [*rubbed(stage), *rejoined(stage, key)] if stage[0] else ():
-                rack, n = in_rack(values.with_stage(watch, i, other), t), n + 1
-                title = "%s, stage %d is %s" % (words, i, other)
-                yield one_call(n, title, rack, (RUBBED_NAME, OTHER_NAME)[n % 8 < 4], values.card_of(watch))
-
-
-# The longest passage's last stage: held, last - first, step; the bytes of the last print behind the first, and what is
-# added to it; the bytes of the step print. All bytes count from 0 up to the step, modulo 251.
-LONGEST_STAGES = [
-    (524288, 524287, 1, 524287, 0, 1), (524288, 524287, 1, 524287, 1, 1),
-    (524288, 524287, 1, 524288, 0, 1), (524288, 524287, 1, 524286, 0, 1),
-    (524289, 524287, 1, 524287, 0, 1), (524289, 524287, 1, 524288, 0, 1),
-    (524287, 524287, 1, 524287, 0, 1), (4294967295, 524287, 1, 524287, 0, 1),
-    (2147483649, 524287, 1, 524287, 0, 1), (74899, 524286, 7, 524286, 0, 7),
-    (74899, 524286, 7, 524279, 0, 7), (74899, 524286, 7, 524286, 1, 7),
-    (2, 524287, 524287, 524287, 0, 524287), (2, 524287, 524287, 524287, 1, 524287),
-    (2, 524287, 524287, 524287, 0, 524286),
-]
-
-
-def prints_behind(f, key, step):
-    """The prints of a stream behind a print."""
-    prints = [f]
-    for i in range(2 ** 19):
-        prints.append(values.pushed(prints[-1], key, i % step % 251))
-    return prints
+    """The watches that are tried in every call, a third of them, each in one call on a rack."""
+    often = [(words, watch) for words, watch, often in rubbed_watches() if often]
+    for n, (words, watch) in enumerate(often[::3]):
+        name = (RUBBED_NAME, OTHER_NAME)[n % 8 < 4]
+        yield one_call(n, words, in_rack(watch), name, values.card_of(watch))
 
 
 def longest_racks():
-    card = plain_card(LONGEST_PASSAGE)
-    behind = {(f, step): prints_behind(f, card[1], step)
-              for f in (0, LATE_PRINT) for step in {row[2] for row in LONGEST_STAGES}}
-    for t in (2000000, PAST_NARROW - 1, LAST_T - 1):
-        first = t - (LONGEST_PASSAGE - 1)
-        for held, span, step, n, more, step_n in LONGEST_STAGES:
-            f_last = behind[LATE_PRINT, step][n] + more
-            stage = held, first, LATE_PRINT, first + span, f_last, step, behind[0, step][step_n]
-            rack = in_rack(values.with_stage(listing_nothing(card, t), STAGES - 1, stage))
-            yield from every_call("longest at %d, stage %d is %s" % (t, STAGES - 1, stage), rack, OTHER_NAME, card)
+    for words, watch, _ in longest_watches():
+        yield from every_call(words, in_rack(watch), OTHER_NAME, values.card_of(watch))
 
 
 # ---- Racks drawn at random -----------------------------------------------------------------
@@ -561,10 +493,9 @@ def drawn_place(rng, name, key, t, f, byte):
         stage = drawn_stage(rng, key, t, c, lengths[i], lengths[i + 1] - 1)
         ripe = t + 1 - lengths[i + 1]
         if stage[0] and stage[1] == ripe:
-            front = following_print(rng, key, ripe, stages[i + 1]) if i + 1 < k else stage[2]
-            stage = stage[:2] + (front,) + stage[3:4] + (values.joined(front, key, stage[6], stage[5], stage[0] - 1),
-                                                         ) + stage[5:]
-            if i and rng.random() < 0.8 or i == 0 and k == 1:
+            front = following_print(rng, key, ripe, stages[i + 1]) if i + 1 < k else stage[F_FIRST]
+            stage = following(values.with_numbers(stage, [(F_FIRST, front)]), key)
+            if rng.random() < 0.8:
                 prints[i + 1] = values.gap(key, ripe, front, t + 1, f_now)[1]
         stages[i] = stage
     card = (lengths[-1], key, *prints) + (0,) * (values.PRINTS - 1 - k)
@@ -591,8 +522,8 @@ def random_racks():
     for n in range(220):
         byte = rng.randrange(256)
         rack = drawn_rack(rng, byte)
-        card = drawn_place(rng, 0, rng.choice([rack[0], rack[0], other_key(rack[0])]), 0, 0, byte)[2:PLACE]
-        yield from every_call("rack %d at random" % n, rack, name_for(rng, rack), card[:SIZE["card"]], byte)
+        card = card_of(drawn_place(rng, 0, rng.choice([rack[0], rack[0], other_key(rack[0])]), 0, 0, byte))
+        yield from every_call("rack %d at random" % n, rack, name_for(rng, rack), card, byte)
 
 
 # ---- Racks damaged at random -----------------------------------------------------------------
@@ -627,7 +558,7 @@ def damaged_racks():
         yield one_call(n, words, other, name_for(rng, rack), card_for(b"\1\2\3", max(2, rack[0])), byte)
 
 
-GROUPS = [
+CASES = [
     ("racks, scripts", scripts),
     ("racks, lists of calls", drawn_lists),
     ("racks, longer passages", longer_lists),
