@@ -1,13 +1,13 @@
 """Cases of the calls on racks (request A.1 of document 02): lists of calls, written out and drawn at random, and racks
 handed in, such as just fit and such as don't.
 
-What must come back on every field is worked out by rack_values.py. In a list of calls, what the rack says of each name is
-besides held against a ladder with unlimited lists of its own (reference.py) and a search over the bytes. Each call is
-made on the rack that must have come back of the call before it.
+What must come back on every field is worked out by rack_values.py. In a list of calls, what the rack says of each name
+is besides held against a ladder with unlimited lists of its own (reference.py) and a search over the bytes. Each call
+is made on the rack that must have come back of the call before it.
 
-CASES has the groups of cases: (words, call, values). A case of a list of calls has a judgement besides, which is asked in
-place of what must come back: a function of what came back, in the order of the calls, that says what is amiss with it,
-None for nothing.
+CASES has the groups of cases: (words, call, values). A case of a list of calls has a judgement besides, which is asked
+in place of what must come back: a function of what came back, in the order of the calls, that says what is amiss with
+it, None for nothing.
 """
 
 import random
@@ -42,7 +42,8 @@ def said(report):
 
 
 class Name:
-    """A card in the rack: "what a watch of its own, begun at c, would say of the bytes since, its starts raised by c"."""
+    """A card in the rack: "what a watch of its own, begun at c, would say of the bytes since, its starts raised by c"
+    """
 
     def __init__(self, passage, key, c):
         self.passage, self.c = passage, c
@@ -68,8 +69,8 @@ class Name:
         occurs = start >= 0 and self.bytes.endswith(self.passage)
         new = {first + step * i for first, step, many in sets for i in range(many)}
         amiss = None
-        if rung not in (None, start) or new & self.aside:
-            amiss = "a start is rung that does not end here, or set aside twice"
+        if rung not in (None, start) or new & self.aside or new and min(new) <= start:
+            amiss = "a start is rung that does not end here, or set aside twice or past its end"
         if occurs and (rung == start) == (start in self.aside):
             amiss = "an occurrence is neither rung nor set aside, or both"
         if (sets or rung is not None and not occurs) and not self.collides():
@@ -87,7 +88,8 @@ class Name:
 
 
 class Desk:
-    """The names that are in, by what came back of the calls so far. Each call says what is amiss with what came back."""
+    """The names that are in, by what came back of the calls so far. Each method says what is amiss with what came back.
+    """
 
     def __init__(self, key, t):
         self.key, self.t, self.names = key, t, {}
@@ -137,8 +139,8 @@ def judgement(call, wanted, law, *parts):
 
 
 def play(words, key, t, acts):
-    """The calls of a list on a rack that has come to t with no card in it. "+" puts in a passage under a name, "*" does so
-    with another key, "-" takes the name out, "=" is a byte."""
+    """The calls of a list on a rack that has come to t with no card in it. "+" puts in a passage under a name, "*" does
+    so with another key, "-" takes the name out, "=" is a byte."""
     yield "%s, begin with key %d" % (words, key), "begin rack", (key,)
     rack, desk = begun(key, t), Desk(key, t)
     for i, (kind, *act) in enumerate(acts):
@@ -262,8 +264,8 @@ def drawn_lists():
     rng = random.Random(1)
     for cards in range(18):
         for key, t in [(KEYS[cards % 3], 0), (2, PAST_NARROW - 40)][:1 + (cards % 4 == 1)]:
-            draw = Draw(rng, key, NAMES, PASSAGES)
-            yield from play("%d cards first, key %d, from %d" % (cards, key, t), key, t, draw.acts(cards, 90 - 3 * cards))
+            acts = Draw(rng, key, NAMES, PASSAGES).acts(cards, 90 - 3 * cards)
+            yield from play("%d cards first, key %d, from %d" % (cards, key, t), key, t, acts)
 
 
 def drawn_passage(rng):

@@ -64,8 +64,8 @@ def place_misfits(place, key, t):
 
 def rack_misfits(rack):
     key, t, f = rack[:HEAD]
-    # A rack misfits as a watch does where A.1's conditions shut in more: its key or F_t out of range, F_t not 0 at t = 0
-    # (docs/DECISIONS.md, reading 12). A.5: "the new limit, above which t is a misfit"
+    # A rack misfits as a watch does where A.1's conditions shut in more: its key or F_t out of range, F_t not 0 at
+    # t = 0 (docs/DECISIONS.md, reading 12). A.5: "the new limit, above which t is a misfit"
     if not values.key_fits(key) or values.now_misfits(t, f):
         return True
     names = [place[NAME] for place in places_of(rack) if not is_free(place)]
@@ -84,8 +84,8 @@ def empty_rack(key):
 
 
 def begin_rack(key):
-    # "A rack is begun with a key, which refusal 3 judges." A refused begin hands back the rack with no card, t = 0 and the
-    # key 0 (docs/DECISIONS.md, reading 14).
+    # "A rack is begun with a key, which refusal 3 judges." A refused begin hands back the rack with no card, t = 0 and
+    # the key 0 (docs/DECISIONS.md, reading 14).
     refusal = first_of((not values.key_fits(key), KEY))
     return refusal, empty_rack(0 if refusal else key)
 
