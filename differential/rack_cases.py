@@ -279,10 +279,12 @@ def drawn_passage(rng):
 
 
 def longer_lists():
-    """Longer passages, any keys and names; from any t on, also such that the count is spent amid the calls."""
+    """Longer passages, any names and keys, also such under which blocks collide everywhere; from any t on, also such
+    that the count is spent amid the calls."""
     rng = random.Random(2)
-    for n in range(12):
-        key, t = inputs.any_key(rng), rng.choice([0, 0, 1, PAST_NARROW - 60, PAST_NARROW, LAST_T - 60])
+    for n in range(18):
+        key = rng.choice([2, 3, inputs.any_key(rng), rng.choice(inputs.KEYS_OF_SMALL_ORDER)])
+        t = rng.choice([0, 0, 1, PAST_NARROW - 60, PAST_NARROW, LAST_T - 60])
         names = rng.sample(range(65536), rng.choice([2, 4, 9, 17]))
         draw = Draw(rng, key, names, [drawn_passage(rng) for _ in range(6)])
         cards = rng.randint(1, len(names))
