@@ -1,12 +1,14 @@
 """Parked records of both kinds, written from document 01 ("Records") and requests A.4 and A.5 of
 document 02 alone.
 
-Used to work out what parking must write (trials.py, refusals.py) and to read it (refusals.py).
+Used to work out what parking must write (trials.py, records.py) and to read it (records.py).
 """
 
+import struct
 from collections import namedtuple
+from functools import lru_cache
 
-from card import field, number
+from card import number
 
 # A kind of parked record: how many bytes t, first and last take; its least length; what a stage
 # adds to it.
@@ -30,6 +32,12 @@ def sizes(form, k):
     return [4, 4, 4, form.place, 4] + [4, form.place, 4, form.place, 4, 4, 4] * k
 
 
+@lru_cache(maxsize=None)
+def layout(form, k):
+    """The fields behind the kind, little-endian."""
+    return struct.Struct("<" + "".join({4: "I", 8: "Q"}[size] for size in sizes(form, k)))
+
+
 def whole_size(form, k):
     """The bytes of a record, its length field included."""
     return 4 + form.least + form.stage * k
@@ -38,19 +46,14 @@ def whole_size(form, k):
 def write_parked(form, fields):
     """The record of these fields."""
     k = (len(fields) - 5) // 7
-    body = number(form.kind, 2)
-    body += b"".join(number(*one) for one in zip(fields, sizes(form, k)))
+    body = number(form.kind, 2) + layout(form, k).pack(*fields)
     assert len(body) + 4 == whole_size(form, k)
     return number(len(body)) + body
 
 
 def read_parked(form, buffer, k):
     """The fields of a record of k stages, which the buffer holds whole."""
-    fields, at = [], 6
-    for size in sizes(form, k):
-        fields.append(field(buffer, at, size))
-        at += size
-    return fields
+    return layout(form, k).unpack_from(buffer, 6)
 
 
 # A.5: "at m = 1 the whole takes 30 bytes"; document 01: "at most 586 bytes with the length field"

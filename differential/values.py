@@ -242,9 +242,9 @@ def taken_off(stage, key):
 
 
 def gap(key, start, f, later, f_later):
-    """The length and print of the bytes from one start to a later one."""
+    """The length and print of the bytes from one start to a later one; to none that is later there are no bytes."""
     # "So fp(v) comes from fp(uv), fp(u) and |v|."
-    length = later - start
+    length = max(later - start, 0)
     return length, (f_later - f * pow(key, length, P)) % P
 
 
