@@ -87,6 +87,7 @@ def prints_misfit(m, taken, prints):
     return any(prints[reached:])
 
 
+@lru_cache(maxsize=1000)
 def card_misfits(card):
     return limits_misfit(card[0], card[1]) or prints_misfit(card[0], card[0], card[2:])
 
