@@ -15,6 +15,7 @@ sys.dont_write_bytecode = True
 import calls
 import card_cases
 import programs
+import random_cases
 import record_cases
 import rubbed_cases
 import step_cases
@@ -22,7 +23,7 @@ import wanted
 import watch_cases
 
 # The groups: words, and a function that gives the cases, each (words, call, values).
-GROUPS = [*card_cases.CASES, *watch_cases.CASES, *record_cases.CASES, *rubbed_cases.CASES, *step_cases.CASES]
+GROUPS = [*card_cases.CASES, *watch_cases.CASES, *record_cases.CASES, *rubbed_cases.CASES, *step_cases.CASES, *random_cases.CASES]
 
 FAILED_CALL = os.path.join(programs.ROOT, "target", "differential", "failed-call.bin")
 SHOWN = 10                      # how many failing cases of a group are named
