@@ -101,22 +101,32 @@ def _numbers(numbers):
     return struct.pack("<%dQ" % len(numbers), *numbers)
 
 
+def _encode_part(kind, part):
+    if kind == "number":
+        return _numbers([part])
+    if kind == "buffer":
+        return _numbers([len(part)]) + bytes(part)
+    if kind == "list":
+        return _numbers([len(part), *part])
+    assert len(part) == SIZE[kind], (kind, len(part))
+    return _numbers(part)
+
+
+def _encode_parts(kinds, parts):
+    assert len(parts) == len(kinds), kinds
+    return b"".join(map(_encode_part, kinds, parts))
+
+
 def encode(name, *parts):
     """A call with its values, as the driver reads it."""
-    call = CALLS[name]
-    assert len(parts) == len(call.takes), name
-    out = [_numbers([call.number])]
-    for kind, part in zip(call.takes, parts):
-        if kind == "number":
-            out.append(_numbers([part]))
-        elif kind == "buffer":
-            out += [_numbers([len(part)]), bytes(part)]
-        elif kind == "list":
-            out.append(_numbers([len(part), *part]))
-        else:
-            assert len(part) == SIZE[kind], (name, kind, len(part))
-            out.append(_numbers(part))
-    return b"".join(out)
+    return _numbers([CALLS[name].number]) + _encode_parts(CALLS[name].takes, parts)
+
+
+def encode_answer(name, answer):
+    """What comes back of a call, as the driver writes it."""
+    if CALLS[name].gives != ["strokes"]:
+        return _encode_parts(CALLS[name].gives, answer)
+    return b"".join(encode_answer("stroke", one) for one in answer)
 
 
 def _decode_part(kind, data, at):

@@ -120,6 +120,31 @@ def lists(stage, start):
     return len(stage) > 0 and start >= stage[0] and start in stage
 
 
+LATE_PRINT = 12345              # the F_t of a late ladder: some print
+
+
+class Late:
+    """The running fingerprints from a late t on."""
+
+    def __init__(self, t, f):
+        self.t, self.prints = t, {t: f}
+
+    def __getitem__(self, x):
+        return self.prints[self.t if x == -1 else x]
+
+    def append(self, f):
+        self.t += 1
+        self.prints[self.t] = f
+
+
+def late_ladder(card, t):
+    """A ladder that has taken t bytes of which nothing is listed; fresh at t = 0."""
+    ladder = Ladder(card)
+    if t:
+        ladder.t, ladder.F = t, Late(t, LATE_PRINT)
+    return ladder
+
+
 class CarefulLadder(Ladder):
     """The same ladder. It keeps the bytes too, computes every fingerprint of
     a block from its bytes, and after each byte checks what document 01 lets a

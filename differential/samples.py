@@ -3,13 +3,13 @@
 from functools import lru_cache
 
 from calls import FIELDS, PRINTS
-from card import LONGEST_PASSAGE, P, fingerprint, make_card
-from reference import LAST_T
+from card import LONGEST_PASSAGE, fingerprint, make_card
+from reference import LATE_PRINT
 from values import NO_STAGES, card_value, start, taken, tested_lengths, with_numbers
 
 # The first number that a field of 4 bytes cannot hold, and the largest of 8 bytes.
 PAST_NARROW, TOP = 2 ** 32, 2 ** 64 - 1
-LATE_PRINT, FILLER, ROOM = 12345, 170, 800
+FILLER, ROOM = 170, 800
 PLACE = {kind: {name: place for place, name in enumerate(names)} for kind, names in FIELDS.items()}
 
 

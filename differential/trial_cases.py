@@ -3,6 +3,7 @@
 
     trial_cases.py DRIVER               all groups; the last line is 'N passed, M failed'
     trial_cases.py DRIVER GROUP ..      these groups
+    trial_cases.py --write-fixed        writes crates/driver/stdin and stdout, the small list of calls for `rt ci`
 """
 
 import os
@@ -14,6 +15,8 @@ sys.dont_write_bytecode = True
 
 import calls
 import card_cases
+import fixed_calls
+import ladder_cases
 import programs
 import random_cases
 import record_cases
@@ -22,8 +25,10 @@ import step_cases
 import wanted
 import watch_cases
 
-# The groups: words, and a function that gives the cases, each (words, call, values).
-GROUPS = [*card_cases.CASES, *watch_cases.CASES, *record_cases.CASES, *rubbed_cases.CASES, *step_cases.CASES, *random_cases.CASES]
+# The groups: words, and a function that gives the cases, each (words, call, values). A case may have a function besides
+# that is asked in place of what must come back: it says what is amiss with an answer, None for nothing.
+GROUPS = [*card_cases.CASES, *watch_cases.CASES, *record_cases.CASES, *rubbed_cases.CASES, *step_cases.CASES,
+          *ladder_cases.CASES, *random_cases.CASES]
 
 FAILED_CALL = os.path.join(programs.ROOT, "target", "differential", "failed-call.bin")
 SHOWN = 10                      # how many failing cases of a group are named
@@ -36,7 +41,7 @@ def answered(driver, cases):
     def sent():
         for case in cases:
             waiting.append(case)
-            yield case[1:]
+            yield case[1], case[2]
 
     for given in calls.answers(driver, sent()):
         yield waiting.popleft(), given
@@ -51,8 +56,8 @@ def keep(name, parts):
 def run_group(driver, words, cases, enough):
     """How many cases passed and failed; the first failing ones are named, and the call of the first is kept."""
     passed, failed, begun = 0, 0, time.monotonic()
-    for (case, name, parts), given in answered(driver, cases()):
-        wrong = wanted.difference(name, parts, given)
+    for (case, name, parts, *judgement), given in answered(driver, cases()):
+        wrong = judgement[0](given) if judgement else wanted.difference(name, parts, given)
         if wrong is None:
             passed += 1
             continue
@@ -81,6 +86,10 @@ def run(driver, groups=None, enough=None):
 def main(arguments):
     if not arguments:
         sys.exit(__doc__)
+    if arguments == ["--write-fixed"]:
+        # Case L comes first.
+        print("%d calls" % fixed_calls.write(sorted(GROUPS, key=lambda group: group[1] != watch_cases.short_streams)))
+        return
     groups = [group for group in GROUPS if group[0] in arguments[1:]] if arguments[1:] else GROUPS
     passed, failed = run(arguments[0], groups)
     print("%d passed, %d failed" % (passed, failed))

@@ -1,14 +1,14 @@
 #!/usr/bin/env python3
-"""What the trial programs must write.
+"""What the trial program of whole runs (crate trials) must write.
 
 What is tried is replayed: the generator of patterns and streams, the shapes and
-lengths, the order of calls and the printed lines are written from the programs
-(crates/trials, crates/refusal_trials). What comes out is worked out without them: answers by the ladder
-with unlimited lists (reference.py), occurrences by a search over the bytes,
-refusals by the documents' conditions (refusals.py).
+lengths, the order of calls and the printed lines are written from the program
+(crates/trials). What comes out is worked out without it: answers by the ladder
+with unlimited lists (reference.py), occurrences by a search over the bytes.
 
-    trials.py runs cuts > crates/trials/stdout
-    trials.py refusals > crates/refusal_trials/stdout
+    trials.py > crates/trials/stdout
+    trials.py runs
+    trials.py cuts
 """
 
 import copy
@@ -18,8 +18,7 @@ sys.dont_write_bytecode = True
 
 from card import make_card, write_card
 from parked import LAST_NARROW_T, NARROW, WIDE, write_parked
-from reference import Ladder
-from refusals import late_ladder, refusals
+from reference import Ladder, late_ladder
 
 
 # ---- The generator -----------------------------------------------------------
@@ -450,7 +449,7 @@ def cuts():
     print("failures 0")
 
 
-PARTS = {"runs": runs, "cuts": cuts, "refusals": refusals}
+PARTS = {"runs": runs, "cuts": cuts}
 
 if __name__ == "__main__":
     for part in sys.argv[1:] or PARTS:

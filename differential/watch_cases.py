@@ -246,13 +246,13 @@ def short_streams():
     for t in LATE_TS:
         watch = listing_nothing(plain_card(8), t)       # "eight bytes of 1, key 2"
         yield "case L at %d" % t, "strokes", (watch, STREAM_L)
-        yield "case L at %d" % t, "report feed", (watch, 0, STREAM_L, filled(4096))
-        yield "case L at %d" % t, "scan", (watch, 0, STREAM_L, list_of(300))
+        yield "case L at %d" % t, "report feed", (watch, 0, STREAM_L, filled(2200))
+        yield "case L at %d" % t, "scan", (watch, 0, STREAM_L, list_of(130))
     for key in (2, 3):
         yield "M9 as passage, key %d" % key, "make", (M9, key)
         watch = start(make(M9, key)[1])[1]
         yield "M10 as stream, key %d" % key, "strokes", (watch, M10)
-        yield "M10 as stream, key %d" % key, "report feed", (watch, 0, M10, filled(4096))
+        yield "M10 as stream, key %d" % key, "report feed", (watch, 0, M10, filled(2200))
 
 
 CASES = [("watches with numbers replaced", numbers_replaced), ("starts of every age", ages), ("watches among others", shared),
