@@ -17,7 +17,9 @@ import calls
 import card_cases
 import fixed_calls
 import ladder_cases
+import midi_cases
 import programs
+import rack_cases
 import random_cases
 import record_cases
 import rubbed_cases
@@ -28,7 +30,7 @@ import watch_cases
 # The groups: words, and a function that gives the cases, each (words, call, values). A case may have a function besides
 # that is asked in place of what must come back: it says what is amiss with an answer, None for nothing.
 GROUPS = [*card_cases.CASES, *watch_cases.CASES, *record_cases.CASES, *rubbed_cases.CASES, *step_cases.CASES,
-          *ladder_cases.CASES, *random_cases.CASES]
+          *ladder_cases.CASES, *random_cases.CASES, *rack_cases.CASES, *midi_cases.CASES]
 
 FAILED_CALL = os.path.join(programs.ROOT, "target", "differential", "failed-call.bin")
 SHOWN = 10                      # how many failing cases of a group are named

@@ -1,6 +1,8 @@
 """For each call what it must hand back, and whether what came back is that."""
 
 import calls
+import midi
+import rack_values
 import records
 import steps
 import values
@@ -17,6 +19,7 @@ RULES = {
     "print push": steps.print_push, "print join": steps.print_join, "print cut": steps.print_cut,
     "print tests": steps.print_tests, "key power": steps.key_power,
     "take off": steps.take_off, "enter": steps.enter,
+    **rack_values.RULES, "midi": midi.call,
 }
 
 
