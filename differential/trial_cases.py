@@ -55,7 +55,7 @@ def keep(name, parts):
         file.write(calls.encode(name, *parts))
 
 
-def run_group(driver, words, cases, enough):
+def run_group(driver, words, cases, enough=None):
     """How many cases passed and failed; the first failing ones are named, and the call of the first is kept."""
     passed, failed, begun = 0, 0, time.monotonic()
     for (case, name, parts, *judgement), given in answered(driver, cases()):
