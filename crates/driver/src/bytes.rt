@@ -4,9 +4,10 @@ use fields::number_at;
 use libc::STDOUT_FILENO;
 use refusal::Verdict;
 
-// Room for a value that a call hands back, and the most bytes of a buffer and numbers of a list that a call is lent.
-pub(crate) const OUT: usize = 32768;
+// The most numbers that are written at once.
+const FEW: usize = 32;
 
+// The most bytes of a buffer, and the most numbers of a list, that a call is lent.
 pub(crate) const LENT: usize = 65536;
 
 pub(crate) const LIST: usize = 4096;
@@ -110,27 +111,35 @@ pub(crate) fn lend_list<'a>(input: &[u8], at: usize, room: &'a mut [u64]) -> &'a
     list
 }
 
-// Stores a number of an answer, and says the place behind it.
-pub(crate) fn put(out: &mut [u8], at: usize, n: u64) -> usize {
-    fields::put(out, at, Width::Double, n);
-    on(at, 8)
+// Stores numbers one after the other, and says the place behind them.
+fn put_all(numbers: &[u64], out: &mut [u8]) -> usize {
+    let mut at: usize = 0;
+    let mut i: usize = 0;
+    while i < FEW && i < numbers.len() {
+        fields::put(out, at, Width::Double, numbers[i]);
+        at = on(at, 8);
+        i = i + 1;
+    }
+    at
 }
 
-pub(crate) fn put_word(out: &mut [u8], at: usize, n: u32) -> usize {
-    put(out, at, n as u64)
-}
-
-// Writes the first n bytes of an answer.
-pub(crate) fn send(out: &[u8], n: usize) {
-    if n <= out.len() {
-        io::write_all(STDOUT_FILENO, &out[0..n]);
+// Writes the first n bytes.
+fn send(bytes: &[u8], n: usize) {
+    if n <= bytes.len() {
+        io::write_all(STDOUT_FILENO, &bytes[0..n]);
     }
 }
 
-pub(crate) fn tell(n: u64) {
-    let mut out = [0u8; 8];
-    let end = put(&mut out, 0, n);
+// Answers with a few numbers.
+pub(crate) fn tell_all(numbers: &[u64]) {
+    let mut out = [0u8; 8 * FEW];
+    let end = put_all(numbers, &mut out);
     send(&out, end);
+}
+
+pub(crate) fn tell(n: u64) {
+    let one = [n];
+    tell_all(&one);
 }
 
 // 1 for yes, 0 for no.
@@ -158,4 +167,11 @@ pub(crate) fn tell_list(numbers: &[u64]) {
         tell(numbers[i]);
         i = i + 1;
     }
+}
+
+// What a call says that writes into a buffer: its verdict, a count and the buffer that it was lent.
+pub(crate) fn tell_written(verdict: Verdict, count: usize, lent: &[u8]) {
+    tell_verdict(verdict);
+    tell(count as u64);
+    tell_buffer(lent);
 }

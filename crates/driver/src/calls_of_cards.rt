@@ -7,9 +7,9 @@ use crate::bytes::nth;
 use crate::bytes::on;
 use crate::bytes::past_buffer;
 use crate::bytes::tell;
-use crate::bytes::tell_buffer;
 use crate::bytes::tell_verdict;
 use crate::bytes::tell_whether;
+use crate::bytes::tell_written;
 use crate::bytes::word;
 use crate::cards::BUILDER;
 use crate::cards::CARD;
@@ -40,11 +40,9 @@ fn tell_finished(done: Finished) {
 }
 
 // What writing a record says, with the buffer that was lent.
-pub(crate) fn tell_written(written: Written, lent: &[u8]) {
+pub(crate) fn tell_record(written: Written, lent: &[u8]) {
     let verdict = written.verdict;
-    tell_verdict(verdict);
-    tell(written.used as u64);
-    tell_buffer(lent);
+    tell_written(verdict, written.used, lent);
 }
 
 fn begin(input: &[u8], at: usize) -> usize {
@@ -68,7 +66,7 @@ fn write(input: &[u8], at: usize) -> usize {
     let behind = nth(at, CARD);
     let lent = lend(input, behind, &mut room);
     let written = write_signature(card(input, at), lent);
-    tell_written(written, lent);
+    tell_record(written, lent);
     past_buffer(input, behind)
 }
 
@@ -93,7 +91,7 @@ fn make_record(input: &[u8], at: usize) -> usize {
     let behind = on(keyed, 8);
     let lent = lend(input, behind, &mut room);
     let written = write_card(buffer(input, at), key(input, keyed), lent);
-    tell_written(written, lent);
+    tell_record(written, lent);
     past_buffer(input, behind)
 }
 

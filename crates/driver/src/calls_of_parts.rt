@@ -1,23 +1,19 @@
 // Calls of fingerprints and of single stages. Each function reads its values at a place and says the place behind them.
-use crate::bytes::OUT;
 use crate::bytes::byte;
 use crate::bytes::nth;
 use crate::bytes::number;
-use crate::bytes::put;
-use crate::bytes::send;
 use crate::bytes::tell;
 use crate::bytes::tell_whether;
 use crate::cards::key;
 use crate::cards::print;
 use crate::watches::STAGE;
 use crate::watches::mark;
-use crate::watches::put_set;
-use crate::watches::put_stage;
 use crate::watches::stage;
+use crate::watches::tell_set;
+use crate::watches::tell_stage;
 use fingerprint::Fingerprint;
 use stage::Aside;
 use stage::Progression;
-use stage::Stage;
 
 fn tell_print(print: Fingerprint) {
     tell(print.number() as u64);
@@ -55,12 +51,6 @@ fn power(input: &[u8], at: usize) -> usize {
     nth(at, 3)
 }
 
-fn tell_stage(stage: Stage) {
-    let mut out = [0u8; OUT];
-    let end = put_stage(&mut out, 0, stage);
-    send(&out, end);
-}
-
 fn take_off(input: &[u8], at: usize) -> usize {
     let behind = nth(at, STAGE);
     tell_stage(stage(input, at).take_off(key(input, behind)));
@@ -68,28 +58,27 @@ fn take_off(input: &[u8], at: usize) -> usize {
 }
 
 // A set that was set aside or not.
-fn put_aside(out: &mut [u8], aside: Aside) -> usize {
-    if let Aside::Set(set) = aside {
-        let next = put(out, 0, 1);
-        return put_set(out, next, set);
-    }
-    let nothing = Progression {
+fn tell_aside(aside: Aside) {
+    let mut set = Progression {
         first: 0,
         step: 0,
         many: 0,
     };
-    let next = put(out, 0, 0);
-    put_set(out, next, nothing)
+    let mut held: u64 = 0;
+    if let Aside::Set(own) = aside {
+        set = own;
+        held = 1;
+    }
+    tell(held);
+    tell_set(set);
 }
 
 fn enter(input: &[u8], at: usize) -> usize {
-    let mut out = [0u8; OUT];
     let behind = nth(at, STAGE);
     let entry = stage(input, at).enter(key(input, behind), mark(input, nth(behind, 1)));
-    tell_stage(entry.stage);
     let aside = entry.aside;
-    let end = put_aside(&mut out, aside);
-    send(&out, end);
+    tell_stage(entry.stage);
+    tell_aside(aside);
     nth(behind, 3)
 }
 

@@ -7,12 +7,15 @@ use crate::bytes::nth;
 use crate::bytes::number;
 use crate::bytes::past_buffer;
 use crate::bytes::tell;
+use crate::bytes::tell_all;
 use crate::bytes::tell_buffer;
 use crate::bytes::tell_verdict;
+use crate::bytes::tell_written;
 use crate::watches::WATCH;
 use crate::watches::tell_watch;
 use crate::watches::watch;
 use midi_file::Bells;
+use report_core::Fed;
 use report_core::Progress;
 
 fn midi(input: &[u8], at: usize) -> usize {
@@ -26,9 +29,7 @@ fn midi(input: &[u8], at: usize) -> usize {
     let lent = lend(input, behind, &mut room);
     let reading = midi_file::read(buffer(input, file), bells, lent);
     let verdict = reading.verdict;
-    tell_verdict(verdict);
-    tell(reading.count as u64);
-    tell_buffer(lent);
+    tell_written(verdict, reading.count, lent);
     past_buffer(input, behind)
 }
 
@@ -43,24 +44,27 @@ fn begin(input: &[u8], at: usize) -> usize {
     past_buffer(input, at)
 }
 
+fn tell_fed(fed: Fed, lent: &[u8]) {
+    let verdict = fed.verdict;
+    let progress = fed.progress;
+    let counts = [fed.taken as u64, fed.used as u64, progress.total];
+    tell_verdict(verdict);
+    tell_all(&counts);
+    tell_watch(progress.matcher);
+    tell_buffer(lent);
+}
+
 fn feed(input: &[u8], at: usize) -> usize {
     let mut room = [0u8; LENT];
     let stream = nth(at, WATCH + 1);
     let behind = past_buffer(input, stream);
-    let before = Progress {
+    let progress = Progress {
         matcher: watch(input, at),
         total: number(input, nth(at, WATCH)),
     };
     let lent = lend(input, behind, &mut room);
-    let fed = report_core::feed(before, buffer(input, stream), lent);
-    let verdict = fed.verdict;
-    let progress = fed.progress;
-    tell_verdict(verdict);
-    tell(fed.taken as u64);
-    tell(fed.used as u64);
-    tell(progress.total);
-    tell_watch(progress.matcher);
-    tell_buffer(lent);
+    let fed = report_core::feed(progress, buffer(input, stream), lent);
+    tell_fed(fed, lent);
     past_buffer(input, behind)
 }
 

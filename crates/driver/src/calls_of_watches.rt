@@ -11,10 +11,11 @@ use crate::bytes::on;
 use crate::bytes::past_buffer;
 use crate::bytes::past_list;
 use crate::bytes::tell;
+use crate::bytes::tell_all;
 use crate::bytes::tell_list;
 use crate::bytes::tell_verdict;
 use crate::bytes::tell_whether;
-use crate::calls_of_cards::tell_written;
+use crate::calls_of_cards::tell_record;
 use crate::cards::CARD;
 use crate::cards::card;
 use crate::cards::key;
@@ -24,7 +25,9 @@ use crate::watches::tell_stages;
 use crate::watches::tell_watch;
 use crate::watches::watch;
 use matcher::Matcher;
+use matcher::Scan;
 use matcher::Stroke;
+use matcher::Turn;
 use powers::Powers;
 use record::Written;
 use record::checkpoint::restore;
@@ -92,7 +95,7 @@ fn park(op: u64, input: &[u8], at: usize, behind: usize) -> usize {
     let used = number(input, nth(at, WATCH)) as usize;
     let lent = lend(input, behind, &mut room);
     let written = parked(op, watch(input, at), lent, used);
-    tell_written(written, lent);
+    tell_record(written, lent);
     past_buffer(input, behind)
 }
 
@@ -106,6 +109,15 @@ fn resume(input: &[u8], at: usize) -> usize {
     past_buffer(input, behind)
 }
 
+fn tell_scan(scan: Scan, notes: &[u64]) {
+    let verdict = scan.verdict;
+    let counts = [scan.noted as u64, scan.comparisons, scan.next as u64];
+    tell_verdict(verdict);
+    tell_all(&counts);
+    tell_watch(scan.matcher);
+    tell_list(notes);
+}
+
 fn scan(input: &[u8], at: usize) -> usize {
     let mut room = [0u64; LIST];
     let from = number(input, nth(at, WATCH)) as usize;
@@ -113,13 +125,7 @@ fn scan(input: &[u8], at: usize) -> usize {
     let behind = past_buffer(input, stream);
     let notes = lend_list(input, behind, &mut room);
     let scan = watch(input, at).scan(buffer(input, stream), from, notes);
-    let verdict = scan.verdict;
-    tell_verdict(verdict);
-    tell(scan.noted as u64);
-    tell(scan.comparisons);
-    tell(scan.next as u64);
-    tell_watch(scan.matcher);
-    tell_list(notes);
+    tell_scan(scan, notes);
     past_list(input, behind)
 }
 
@@ -128,12 +134,7 @@ fn watch_fits(input: &[u8], at: usize) -> usize {
     nth(at, WATCH)
 }
 
-// A stroke as a rack makes it: under a table of a key's powers, of a watch that was put in at a count.
-fn stroke_shared(input: &[u8], at: usize) -> usize {
-    let behind = nth(at, WATCH);
-    let powers = Powers::of(key(input, behind), MAX_LENGTH);
-    let since = number(input, nth(behind, 1));
-    let turn = watch(input, at).stroke_shared(powers, since, byte(input, nth(behind, 2)));
+fn tell_turn(turn: Turn) {
     let verdict = turn.verdict;
     let walk = turn.walk;
     let stages = walk.stages;
@@ -141,6 +142,15 @@ fn stroke_shared(input: &[u8], at: usize) -> usize {
     tell_whether(turn.moved);
     tell_answer(walk.answer);
     tell_stages(stages);
+}
+
+// A stroke as a rack makes it: under a table of a key's powers, of a watch that was put in at a count.
+fn stroke_shared(input: &[u8], at: usize) -> usize {
+    let behind = nth(at, WATCH);
+    let powers = Powers::of(key(input, behind), MAX_LENGTH);
+    let since = number(input, nth(behind, 1));
+    let byte = byte(input, nth(behind, 2));
+    tell_turn(watch(input, at).stroke_shared(powers, since, byte));
     nth(behind, 3)
 }
 

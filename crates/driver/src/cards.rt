@@ -1,8 +1,6 @@
 // Cards and half-made cards as numbers.
-use crate::bytes::OUT;
 use crate::bytes::nth;
-use crate::bytes::put_word;
-use crate::bytes::send;
+use crate::bytes::tell_all;
 use crate::bytes::word;
 use fingerprint::Fingerprint;
 use fingerprint::Key;
@@ -25,10 +23,6 @@ pub(crate) fn print(input: &[u8], at: usize) -> Fingerprint {
     Fingerprint::of_number(word(input, at))
 }
 
-pub(crate) fn put_print(out: &mut [u8], at: usize, print: Fingerprint) -> usize {
-    put_word(out, at, print.number())
-}
-
 fn prints(input: &[u8], at: usize) -> [Fingerprint; PLACES] {
     let nothing = Fingerprint::empty();
     let mut prints = [nothing; PLACES];
@@ -40,15 +34,15 @@ fn prints(input: &[u8], at: usize) -> [Fingerprint; PLACES] {
     prints
 }
 
-fn put_prints(out: &mut [u8], at: usize, prints: [Fingerprint; PLACES]) -> usize {
-    let mut next = at;
+fn tell_prints(prints: [Fingerprint; PLACES]) {
+    let mut numbers = [0u64; PLACES];
     let mut i: u32 = 0;
     while i < COUNT {
         let print = prints[i as usize];
-        next = put_print(out, next, print);
+        numbers[i as usize] = print.number() as u64;
         i = i + 1;
     }
-    next
+    tell_all(&numbers);
 }
 
 pub(crate) fn card(input: &[u8], at: usize) -> Signature {
@@ -59,18 +53,12 @@ pub(crate) fn card(input: &[u8], at: usize) -> Signature {
     }
 }
 
-pub(crate) fn put_card(out: &mut [u8], at: usize, card: Signature) -> usize {
+pub(crate) fn tell_card(card: Signature) {
     let key = card.key;
     let prints = card.prints;
-    let next = put_word(out, at, card.length);
-    let behind = put_word(out, next, key.number());
-    put_prints(out, behind, prints)
-}
-
-pub(crate) fn tell_card(card: Signature) {
-    let mut out = [0u8; OUT];
-    let end = put_card(&mut out, 0, card);
-    send(&out, end);
+    let head = [card.length as u64, key.number() as u64];
+    tell_all(&head);
+    tell_prints(prints);
 }
 
 pub(crate) fn builder(input: &[u8], at: usize) -> Builder {
@@ -84,14 +72,15 @@ pub(crate) fn builder(input: &[u8], at: usize) -> Builder {
 }
 
 pub(crate) fn tell_builder(builder: Builder) {
-    let mut out = [0u8; OUT];
     let key = builder.key;
-    let prints = builder.prints;
     let running = builder.print;
-    let length = put_word(&mut out, 0, builder.length);
-    let next = put_word(&mut out, length, key.number());
-    let taken = put_word(&mut out, next, builder.taken);
-    let behind = put_print(&mut out, taken, running);
-    let end = put_prints(&mut out, behind, prints);
-    send(&out, end);
+    let prints = builder.prints;
+    let head = [
+        builder.length as u64,
+        key.number() as u64,
+        builder.taken as u64,
+        running.number() as u64,
+    ];
+    tell_all(&head);
+    tell_prints(prints);
 }

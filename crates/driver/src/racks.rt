@@ -1,26 +1,24 @@
 // Racks as numbers, and their calls. Each call reads its values at a place and says the place behind them.
-use crate::bytes::OUT;
 use crate::bytes::byte;
 use crate::bytes::half;
 use crate::bytes::nth;
 use crate::bytes::number;
 use crate::bytes::on;
-use crate::bytes::put;
-use crate::bytes::put_word;
-use crate::bytes::send;
+use crate::bytes::tell;
+use crate::bytes::tell_all;
 use crate::bytes::tell_verdict;
 use crate::bytes::tell_whether;
 use crate::cards::CARD;
 use crate::cards::card;
 use crate::cards::key;
-use crate::cards::put_card;
+use crate::cards::tell_card;
 use crate::watches::MARK;
 use crate::watches::STAGES_OF;
 use crate::watches::mark;
-use crate::watches::put_answer;
-use crate::watches::put_mark;
-use crate::watches::put_stages;
 use crate::watches::stages;
+use crate::watches::tell_answer;
+use crate::watches::tell_mark;
+use crate::watches::tell_stages;
 use rack::CARDS;
 use rack::Changed;
 use rack::Place;
@@ -43,13 +41,12 @@ fn place(input: &[u8], at: usize) -> Place {
     }
 }
 
-fn put_place(out: &mut [u8], at: usize, place: Place) -> usize {
-    let signature = place.signature;
+fn tell_place(place: Place) {
     let stages = place.stages;
-    let named = put(out, at, place.name as u64);
-    let since = put(out, named, place.since);
-    let behind = put_card(out, since, signature);
-    put_stages(out, behind, stages)
+    let head = [place.name as u64, place.since];
+    tell_all(&head);
+    tell_card(place.signature);
+    tell_stages(stages);
 }
 
 fn rack(input: &[u8], at: usize) -> Rack {
@@ -67,44 +64,28 @@ fn rack(input: &[u8], at: usize) -> Rack {
     }
 }
 
-fn put_rack(out: &mut [u8], rack: Rack) -> usize {
+fn tell_rack(rack: Rack) {
     let key = rack.key;
-    let now = rack.now;
-    let keyed = put_word(out, 0, key.number());
-    let mut next = put_mark(out, keyed, now);
     let mut i: u32 = 0;
+    tell(key.number() as u64);
+    tell_mark(rack.now);
     while i < CARDS {
         let place = rack.places[i as usize];
-        next = put_place(out, next, place);
+        tell_place(place);
         i = i + 1;
     }
-    next
-}
-
-fn put_reports(out: &mut [u8], reports: Reports) -> usize {
-    let many = put_word(out, 0, reports.many);
-    let mut next = put_word(out, many, reports.comparisons);
-    let mut i: u32 = 0;
-    while i < CARDS {
-        let report = reports.reports[i as usize];
-        let answer = report.answer;
-        let named = put(out, next, report.name as u64);
-        next = put_answer(out, named, answer);
-        i = i + 1;
-    }
-    next
-}
-
-fn tell_rack(rack: Rack) {
-    let mut out = [0u8; OUT];
-    let end = put_rack(&mut out, rack);
-    send(&out, end);
 }
 
 fn tell_reports(reports: Reports) {
-    let mut out = [0u8; OUT];
-    let end = put_reports(&mut out, reports);
-    send(&out, end);
+    let head = [reports.many as u64, reports.comparisons as u64];
+    let mut i: u32 = 0;
+    tell_all(&head);
+    while i < CARDS {
+        let report = reports.reports[i as usize];
+        tell(report.name as u64);
+        tell_answer(report.answer);
+        i = i + 1;
+    }
 }
 
 fn tell_changed(changed: Changed) {

@@ -1,16 +1,12 @@
 // Stages, watches and the answers to a byte as numbers.
-use crate::bytes::OUT;
 use crate::bytes::nth;
 use crate::bytes::number;
-use crate::bytes::put;
-use crate::bytes::put_word;
-use crate::bytes::send;
+use crate::bytes::tell_all;
 use crate::bytes::word;
 use crate::cards::CARD;
 use crate::cards::card;
 use crate::cards::print;
-use crate::cards::put_card;
-use crate::cards::put_print;
+use crate::cards::tell_card;
 use matcher::Answer;
 use matcher::Matcher;
 use matcher::Ring;
@@ -38,10 +34,10 @@ pub(crate) fn mark(input: &[u8], at: usize) -> Mark {
     }
 }
 
-pub(crate) fn put_mark(out: &mut [u8], at: usize, mark: Mark) -> usize {
+pub(crate) fn tell_mark(mark: Mark) {
     let print = mark.print;
-    let next = put(out, at, mark.at);
-    put_print(out, next, print)
+    let numbers = [mark.at, print.number() as u64];
+    tell_all(&numbers);
 }
 
 pub(crate) fn stage(input: &[u8], at: usize) -> Stage {
@@ -56,15 +52,20 @@ pub(crate) fn stage(input: &[u8], at: usize) -> Stage {
     }
 }
 
-pub(crate) fn put_stage(out: &mut [u8], at: usize, stage: Stage) -> usize {
+pub(crate) fn tell_stage(stage: Stage) {
     let first = stage.first;
     let last = stage.last;
     let step = stage.step;
-    let held = put_word(out, at, stage.held);
-    let one = put_mark(out, held, first);
-    let two = put_mark(out, one, last);
-    let length = put_word(out, two, step.length);
-    put_print(out, length, step.print)
+    let numbers = [
+        stage.held as u64,
+        first.at,
+        first.print.number() as u64,
+        last.at,
+        last.print.number() as u64,
+        step.length as u64,
+        step.print.number() as u64,
+    ];
+    tell_all(&numbers);
 }
 
 pub(crate) fn stages(input: &[u8], at: usize) -> [Stage; STAGES] {
@@ -78,21 +79,13 @@ pub(crate) fn stages(input: &[u8], at: usize) -> [Stage; STAGES] {
     stages
 }
 
-pub(crate) fn put_stages(out: &mut [u8], at: usize, stages: [Stage; STAGES]) -> usize {
-    let mut next = at;
+pub(crate) fn tell_stages(stages: [Stage; STAGES]) {
     let mut i: u32 = 0;
     while i < COUNT {
         let stage = stages[i as usize];
-        next = put_stage(out, next, stage);
+        tell_stage(stage);
         i = i + 1;
     }
-    next
-}
-
-pub(crate) fn tell_stages(stages: [Stage; STAGES]) {
-    let mut out = [0u8; OUT];
-    let end = put_stages(&mut out, 0, stages);
-    send(&out, end);
 }
 
 pub(crate) fn watch(input: &[u8], at: usize) -> Matcher {
@@ -104,53 +97,41 @@ pub(crate) fn watch(input: &[u8], at: usize) -> Matcher {
 }
 
 pub(crate) fn tell_watch(watch: Matcher) {
-    let mut out = [0u8; OUT];
-    let signature = watch.signature;
-    let now = watch.now;
     let stages = watch.stages;
-    let next = put_card(&mut out, 0, signature);
-    let behind = put_mark(&mut out, next, now);
-    let end = put_stages(&mut out, behind, stages);
-    send(&out, end);
+    tell_card(watch.signature);
+    tell_mark(watch.now);
+    tell_stages(stages);
 }
 
-fn put_ring(out: &mut [u8], at: usize, ring: Ring) -> usize {
+fn tell_ring(ring: Ring) {
     if let Ring::At(start) = ring {
-        let next = put(out, at, 1);
-        return put(out, next, start);
+        let rung = [1, start];
+        tell_all(&rung);
+        return;
     }
-    let next = put(out, at, 0);
-    put(out, next, 0)
+    let silent = [0u64; 2];
+    tell_all(&silent);
 }
 
-pub(crate) fn put_set(out: &mut [u8], at: usize, set: Progression) -> usize {
-    let first = put(out, at, set.first);
-    let step = put_word(out, first, set.step);
-    put_word(out, step, set.many)
+pub(crate) fn tell_set(set: Progression) {
+    let numbers = [set.first, set.step as u64, set.many as u64];
+    tell_all(&numbers);
 }
 
-fn put_sets(out: &mut [u8], at: usize, sets: [Progression; STAGES]) -> usize {
-    let mut next = at;
+fn tell_sets(sets: [Progression; STAGES]) {
     let mut i: u32 = 0;
     while i < COUNT {
         let set = sets[i as usize];
-        next = put_set(out, next, set);
+        tell_set(set);
         i = i + 1;
     }
-    next
-}
-
-pub(crate) fn put_answer(out: &mut [u8], at: usize, answer: Answer) -> usize {
-    let ring = answer.ring;
-    let sets = answer.sets;
-    let next = put_ring(out, at, ring);
-    let asides = put_word(out, next, answer.asides);
-    let behind = put_word(out, asides, answer.comparisons);
-    put_sets(out, behind, sets)
 }
 
 pub(crate) fn tell_answer(answer: Answer) {
-    let mut out = [0u8; OUT];
-    let end = put_answer(&mut out, 0, answer);
-    send(&out, end);
+    let ring = answer.ring;
+    let sets = answer.sets;
+    let counts = [answer.asides as u64, answer.comparisons as u64];
+    tell_ring(ring);
+    tell_all(&counts);
+    tell_sets(sets);
 }
