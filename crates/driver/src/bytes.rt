@@ -1,4 +1,5 @@
-// Numbers, buffers and lists at places of the input, and answers.
+// Numbers, buffers and lists of the input, and answers. Values stand at the front of what is left of the input; a number is found by how many
+// numbers stand before it.
 use fields::Width;
 use fields::number_at;
 use libc::STDOUT_FILENO;
@@ -12,57 +13,56 @@ pub(crate) const LENT: usize = 65536;
 
 pub(crate) const LIST: usize = 4096;
 
-// So many bytes behind a place.
-pub(crate) fn on(at: usize, n: usize) -> usize {
-    std::num::wrapping_add_usize(at, n)
+// The first n bytes, or all where there are fewer.
+pub(crate) fn until(bytes: &[u8], n: usize) -> &[u8] {
+    if bytes.len() < n {
+        return bytes;
+    }
+    &bytes[0..n]
 }
 
-// Number i behind a place.
-pub(crate) fn nth(at: usize, i: u32) -> usize {
-    on(at, (8 * (i as u64)) as usize)
+// The bytes behind the first n, none where there are fewer.
+pub(crate) fn behind(bytes: &[u8], n: usize) -> &[u8] {
+    if bytes.len() < n {
+        return &bytes[0..0];
+    }
+    &bytes[n..]
 }
 
-pub(crate) fn number(input: &[u8], at: usize) -> u64 {
-    number_at(input, at, Width::Double)
+// What stands from number i on.
+pub(crate) fn from(values: &[u8], i: u32) -> &[u8] {
+    behind(values, 8 * (i as usize))
+}
+
+pub(crate) fn number(values: &[u8], i: u32) -> u64 {
+    number_at(values, 8 * (i as usize), Width::Double)
 }
 
 // A number in 32 bits, in 16 and in 8.
-pub(crate) fn word(input: &[u8], at: usize) -> u32 {
-    (number(input, at) % 4294967296) as u32
+pub(crate) fn word(values: &[u8], i: u32) -> u32 {
+    (number(values, i) % 4294967296) as u32
 }
 
-pub(crate) fn half(input: &[u8], at: usize) -> u16 {
-    (number(input, at) % 65536) as u16
+pub(crate) fn half(values: &[u8], i: u32) -> u16 {
+    (number(values, i) % 65536) as u16
 }
 
-pub(crate) fn byte(input: &[u8], at: usize) -> u8 {
-    (number(input, at) % 256) as u8
+pub(crate) fn byte(values: &[u8], i: u32) -> u8 {
+    (number(values, i) % 256) as u8
 }
 
-// The part of the input from a place on that has so many bytes, or what there is of it.
-pub(crate) fn part(input: &[u8], at: usize, n: usize) -> &[u8] {
-    if input.len() < at {
-        return &input[0..0];
-    }
-    if input.len() - at < n {
-        return &input[at..];
-    }
-    let end = at + n;
-    &input[at..end]
+// A buffer, which is its length and then its bytes; and what stands behind it.
+pub(crate) fn buffer(values: &[u8]) -> &[u8] {
+    until(from(values, 1), number(values, 0) as usize)
 }
 
-// The buffer at a place: its length stands there, then its bytes.
-pub(crate) fn buffer(input: &[u8], at: usize) -> &[u8] {
-    part(input, on(at, 8), number(input, at) as usize)
+pub(crate) fn past_buffer(values: &[u8]) -> &[u8] {
+    behind(from(values, 1), number(values, 0) as usize)
 }
 
-// The places behind a buffer and behind a list.
-pub(crate) fn past_buffer(input: &[u8], at: usize) -> usize {
-    on(on(at, 8), number(input, at) as usize)
-}
-
-pub(crate) fn past_list(input: &[u8], at: usize) -> usize {
-    nth(on(at, 8), word(input, at))
+// What stands behind a list, which is its length and then its numbers.
+pub(crate) fn past_list(values: &[u8]) -> &[u8] {
+    from(from(values, 1), word(values, 0))
 }
 
 fn front(bytes: &mut [u8], n: usize) -> &mut [u8] {
@@ -80,9 +80,9 @@ fn copy(from: &[u8], to: &mut [u8]) {
     }
 }
 
-// The buffer at a place, to be altered: the front of the room, or all of it where the buffer is longer.
-pub(crate) fn lend<'a>(input: &[u8], at: usize, room: &'a mut [u8]) -> &'a mut [u8] {
-    let bytes = buffer(input, at);
+// A buffer to be altered: the front of the room, or all of it where the buffer is longer.
+pub(crate) fn lend<'a>(values: &[u8], room: &'a mut [u8]) -> &'a mut [u8] {
+    let bytes = buffer(values);
     copy(bytes, room);
     front(room, bytes.len())
 }
@@ -94,47 +94,38 @@ fn front_of_list(numbers: &mut [u64], n: usize) -> &mut [u64] {
     numbers
 }
 
-fn fill_list(input: &[u8], at: usize, numbers: &mut [u64]) {
-    let mut next = at;
+fn fill_list(values: &[u8], numbers: &mut [u64]) {
     let mut i: usize = 0;
     while i < LIST && i < numbers.len() {
-        numbers[i] = number(input, next);
-        next = on(next, 8);
+        numbers[i] = number(values, i as u32);
         i = i + 1;
     }
 }
 
-// The list at a place, in the same way: its length stands there, then its numbers.
-pub(crate) fn lend_list<'a>(input: &[u8], at: usize, room: &'a mut [u64]) -> &'a mut [u64] {
-    let list = front_of_list(room, word(input, at) as usize);
-    fill_list(input, on(at, 8), list);
+// A list to be altered, in the same way.
+pub(crate) fn lend_list<'a>(values: &[u8], room: &'a mut [u64]) -> &'a mut [u64] {
+    let list = front_of_list(room, word(values, 0) as usize);
+    fill_list(from(values, 1), list);
     list
 }
 
-// Stores numbers one after the other, and says the place behind them.
-fn put_all(numbers: &[u64], out: &mut [u8]) -> usize {
-    let mut at: usize = 0;
+// Stores numbers one after the other.
+fn put_all(numbers: &[u64], out: &mut [u8]) {
     let mut i: usize = 0;
     while i < FEW && i < numbers.len() {
-        fields::put(out, at, Width::Double, numbers[i]);
-        at = on(at, 8);
+        fields::put(out, 8 * i, Width::Double, numbers[i]);
         i = i + 1;
-    }
-    at
-}
-
-// Writes the first n bytes.
-fn send(bytes: &[u8], n: usize) {
-    if n <= bytes.len() {
-        io::write_all(STDOUT_FILENO, &bytes[0..n]);
     }
 }
 
 // Answers with a few numbers.
 pub(crate) fn tell_all(numbers: &[u64]) {
     let mut out = [0u8; 8 * FEW];
-    let end = put_all(numbers, &mut out);
-    send(&out, end);
+    let many = numbers.len();
+    if many <= FEW {
+        put_all(numbers, &mut out);
+        io::write_all(STDOUT_FILENO, until(&out, 8 * many));
+    }
 }
 
 pub(crate) fn tell(n: u64) {
@@ -157,7 +148,7 @@ pub(crate) fn tell_verdict(verdict: Verdict) {
 
 pub(crate) fn tell_buffer(bytes: &[u8]) {
     tell(bytes.len() as u64);
-    send(bytes, bytes.len());
+    io::write_all(STDOUT_FILENO, bytes);
 }
 
 pub(crate) fn tell_list(numbers: &[u64]) {

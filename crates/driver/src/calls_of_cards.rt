@@ -1,10 +1,9 @@
-// The maker's calls, and records of cards. Each function reads its values at a place and says the place behind them.
+// The maker's calls, and records of cards. Each function takes its values from the front of the input, and hands back what is left.
 use crate::bytes::LENT;
 use crate::bytes::buffer;
 use crate::bytes::byte;
+use crate::bytes::from;
 use crate::bytes::lend;
-use crate::bytes::nth;
-use crate::bytes::on;
 use crate::bytes::past_buffer;
 use crate::bytes::tell;
 use crate::bytes::tell_verdict;
@@ -27,6 +26,9 @@ use signature::Builder;
 use signature::Building;
 use signature::Finished;
 
+// How many numbers a push takes: a half-made card and a byte.
+const PUSHED: u32 = BUILDER + 1;
+
 fn tell_building(made: Building) {
     let verdict = made.verdict;
     tell_verdict(verdict);
@@ -45,77 +47,76 @@ pub(crate) fn tell_record(written: Written, lent: &[u8]) {
     tell_written(verdict, written.used, lent);
 }
 
-fn begin(input: &[u8], at: usize) -> usize {
-    tell_building(Builder::begin(word(input, at), key(input, nth(at, 1))));
-    nth(at, 2)
+fn begin(values: &[u8]) -> &[u8] {
+    tell_building(Builder::begin(word(values, 0), key(values, 1)));
+    from(values, 2)
 }
 
-fn push(input: &[u8], at: usize) -> usize {
-    let end = nth(at, BUILDER);
-    tell_building(builder(input, at).push(byte(input, end)));
-    on(end, 8)
+fn push(values: &[u8]) -> &[u8] {
+    tell_building(builder(values).push(byte(values, BUILDER)));
+    from(values, PUSHED)
 }
 
-fn finish(input: &[u8], at: usize) -> usize {
-    tell_finished(builder(input, at).finish());
-    nth(at, BUILDER)
+fn finish(values: &[u8]) -> &[u8] {
+    tell_finished(builder(values).finish());
+    from(values, BUILDER)
 }
 
-fn write(input: &[u8], at: usize) -> usize {
+fn write(values: &[u8]) -> &[u8] {
     let mut room = [0u8; LENT];
-    let behind = nth(at, CARD);
-    let lent = lend(input, behind, &mut room);
-    let written = write_signature(card(input, at), lent);
+    let rest = from(values, CARD);
+    let lent = lend(rest, &mut room);
+    let written = write_signature(card(values), lent);
     tell_record(written, lent);
-    past_buffer(input, behind)
+    past_buffer(rest)
 }
 
-fn read(input: &[u8], at: usize) -> usize {
-    let read = read_signature(buffer(input, at));
+fn read(values: &[u8]) -> &[u8] {
+    let read = read_signature(buffer(values));
     let verdict = read.verdict;
     tell_verdict(verdict);
     tell(read.taken as u64);
     tell_card(read.signature);
-    past_buffer(input, at)
+    past_buffer(values)
 }
 
-fn make_whole(input: &[u8], at: usize) -> usize {
-    let behind = past_buffer(input, at);
-    tell_finished(make(buffer(input, at), key(input, behind)));
-    on(behind, 8)
+fn make_whole(values: &[u8]) -> &[u8] {
+    let rest = past_buffer(values);
+    tell_finished(make(buffer(values), key(rest, 0)));
+    from(rest, 1)
 }
 
-fn make_record(input: &[u8], at: usize) -> usize {
+fn make_record(values: &[u8]) -> &[u8] {
     let mut room = [0u8; LENT];
-    let keyed = past_buffer(input, at);
-    let behind = on(keyed, 8);
-    let lent = lend(input, behind, &mut room);
-    let written = write_card(buffer(input, at), key(input, keyed), lent);
+    let keyed = past_buffer(values);
+    let rest = from(keyed, 1);
+    let lent = lend(rest, &mut room);
+    let written = write_card(buffer(values), key(keyed, 0), lent);
     tell_record(written, lent);
-    past_buffer(input, behind)
+    past_buffer(rest)
 }
 
-fn builder_fits(input: &[u8], at: usize) -> usize {
-    tell_whether(builder(input, at).fits());
-    nth(at, BUILDER)
+fn builder_fits(values: &[u8]) -> &[u8] {
+    tell_whether(builder(values).fits());
+    from(values, BUILDER)
 }
 
-fn card_fits(input: &[u8], at: usize) -> usize {
-    tell_whether(card(input, at).fits());
-    nth(at, CARD)
+fn card_fits(values: &[u8]) -> &[u8] {
+    tell_whether(card(values).fits());
+    from(values, CARD)
 }
 
-pub(crate) fn call(op: u64, input: &[u8], at: usize) -> usize {
+pub(crate) fn call(op: u64, values: &[u8]) -> &[u8] {
     match op {
-        1 => begin(input, at),
-        2 => push(input, at),
-        3 => finish(input, at),
-        4 => write(input, at),
-        5 => read(input, at),
-        6 => make_whole(input, at),
-        7 => make_record(input, at),
-        8 => builder_fits(input, at),
-        9 => card_fits(input, at),
-        _ => 0,
+        1 => begin(values),
+        2 => push(values),
+        3 => finish(values),
+        4 => write(values),
+        5 => read(values),
+        6 => make_whole(values),
+        7 => make_record(values),
+        8 => builder_fits(values),
+        9 => card_fits(values),
+        _ => &values[0..0],
     }
 }

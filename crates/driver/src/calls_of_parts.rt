@@ -1,6 +1,7 @@
-// Calls of fingerprints and of single stages. Each function reads its values at a place and says the place behind them.
+// Calls of fingerprints and of single stages. Each function takes its values from the front of the input, and hands back what is
+// left.
 use crate::bytes::byte;
-use crate::bytes::nth;
+use crate::bytes::from;
 use crate::bytes::number;
 use crate::bytes::tell;
 use crate::bytes::tell_whether;
@@ -19,42 +20,40 @@ fn tell_print(print: Fingerprint) {
     tell(print.number() as u64);
 }
 
-fn push(input: &[u8], at: usize) -> usize {
-    tell_print(print(input, at).push(key(input, nth(at, 1)), byte(input, nth(at, 2))));
-    nth(at, 3)
+fn push(values: &[u8]) -> &[u8] {
+    tell_print(print(values, 0).push(key(values, 1), byte(values, 2)));
+    from(values, 3)
 }
 
-fn join(input: &[u8], at: usize) -> usize {
-    let other = print(input, nth(at, 2));
-    tell_print(print(input, at).join(key(input, nth(at, 1)), other, number(input, nth(at, 3))));
-    nth(at, 4)
+fn join(values: &[u8]) -> &[u8] {
+    tell_print(print(values, 0).join(key(values, 1), print(values, 2), number(values, 3)));
+    from(values, 4)
 }
 
-fn cut(input: &[u8], at: usize) -> usize {
-    let front = print(input, nth(at, 2));
-    tell_print(print(input, at).cut(key(input, nth(at, 1)), front, number(input, nth(at, 3))));
-    nth(at, 4)
+fn cut(values: &[u8]) -> &[u8] {
+    tell_print(print(values, 0).cut(key(values, 1), print(values, 2), number(values, 3)));
+    from(values, 4)
 }
 
-fn tests(input: &[u8], at: usize) -> usize {
-    let print = print(input, at);
-    tell_whether(print.equals(crate::cards::print(input, nth(at, 1))));
-    tell_whether(print.fits());
-    tell_whether(print.is_of_byte());
-    nth(at, 2)
+fn tests(values: &[u8]) -> &[u8] {
+    let one = print(values, 0);
+    tell_whether(one.equals(print(values, 1)));
+    tell_whether(one.fits());
+    tell_whether(one.is_of_byte());
+    from(values, 2)
 }
 
 // A power is seen by what it does to a fingerprint.
-fn power(input: &[u8], at: usize) -> usize {
-    let power = key(input, at).power(number(input, nth(at, 1)));
-    tell_print(print(input, nth(at, 2)).join_by(Fingerprint::empty(), power));
-    nth(at, 3)
+fn power(values: &[u8]) -> &[u8] {
+    let power = key(values, 0).power(number(values, 1));
+    tell_print(print(values, 2).join_by(Fingerprint::empty(), power));
+    from(values, 3)
 }
 
-fn take_off(input: &[u8], at: usize) -> usize {
-    let behind = nth(at, STAGE);
-    tell_stage(stage(input, at).take_off(key(input, behind)));
-    nth(behind, 1)
+fn take_off(values: &[u8]) -> &[u8] {
+    let rest = from(values, STAGE);
+    tell_stage(stage(values).take_off(key(rest, 0)));
+    from(rest, 1)
 }
 
 // A set that was set aside or not.
@@ -73,24 +72,24 @@ fn tell_aside(aside: Aside) {
     tell_set(set);
 }
 
-fn enter(input: &[u8], at: usize) -> usize {
-    let behind = nth(at, STAGE);
-    let entry = stage(input, at).enter(key(input, behind), mark(input, nth(behind, 1)));
+fn enter(values: &[u8]) -> &[u8] {
+    let rest = from(values, STAGE);
+    let entry = stage(values).enter(key(rest, 0), mark(from(rest, 1)));
     let aside = entry.aside;
     tell_stage(entry.stage);
     tell_aside(aside);
-    nth(behind, 3)
+    from(rest, 3)
 }
 
-pub(crate) fn call(op: u64, input: &[u8], at: usize) -> usize {
+pub(crate) fn call(op: u64, values: &[u8]) -> &[u8] {
     match op {
-        64 => push(input, at),
-        65 => join(input, at),
-        66 => cut(input, at),
-        67 => tests(input, at),
-        68 => power(input, at),
-        80 => take_off(input, at),
-        81 => enter(input, at),
-        _ => 0,
+        64 => push(values),
+        65 => join(values),
+        66 => cut(values),
+        67 => tests(values),
+        68 => power(values),
+        80 => take_off(values),
+        81 => enter(values),
+        _ => &values[0..0],
     }
 }

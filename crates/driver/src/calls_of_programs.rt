@@ -1,9 +1,10 @@
-// What the programs over MIDI files and for printing are made of. Each function reads its values at a place and says the place behind them.
+// What the programs over MIDI files and for printing are made of. Each function takes its values from the front
+// of the input, and hands back what is left.
 use crate::bytes::LENT;
 use crate::bytes::buffer;
 use crate::bytes::byte;
+use crate::bytes::from;
 use crate::bytes::lend;
-use crate::bytes::nth;
 use crate::bytes::number;
 use crate::bytes::past_buffer;
 use crate::bytes::tell;
@@ -11,6 +12,7 @@ use crate::bytes::tell_all;
 use crate::bytes::tell_buffer;
 use crate::bytes::tell_verdict;
 use crate::bytes::tell_written;
+use crate::calls_of_watches::AND_ONE;
 use crate::watches::WATCH;
 use crate::watches::tell_watch;
 use crate::watches::watch;
@@ -18,30 +20,30 @@ use midi_file::Bells;
 use report_core::Fed;
 use report_core::Progress;
 
-fn midi(input: &[u8], at: usize) -> usize {
+fn midi(values: &[u8]) -> &[u8] {
     let mut room = [0u8; LENT];
-    let file = nth(at, 2);
-    let behind = past_buffer(input, file);
+    let file = from(values, 2);
+    let rest = past_buffer(file);
+    let lent = lend(rest, &mut room);
     let bells = Bells {
-        lowest: byte(input, at),
-        highest: byte(input, nth(at, 1)),
+        lowest: byte(values, 0),
+        highest: byte(values, 1),
     };
-    let lent = lend(input, behind, &mut room);
-    let reading = midi_file::read(buffer(input, file), bells, lent);
+    let reading = midi_file::read(buffer(file), bells, lent);
     let verdict = reading.verdict;
     tell_written(verdict, reading.count, lent);
-    past_buffer(input, behind)
+    past_buffer(rest)
 }
 
-fn begin(input: &[u8], at: usize) -> usize {
-    let begun = report_core::begin(buffer(input, at));
+fn begin(values: &[u8]) -> &[u8] {
+    let begun = report_core::begin(buffer(values));
     let verdict = begun.verdict;
     let progress = begun.progress;
     tell_verdict(verdict);
     tell(begun.taken as u64);
     tell(progress.total);
     tell_watch(progress.matcher);
-    past_buffer(input, at)
+    past_buffer(values)
 }
 
 fn tell_fed(fed: Fed, lent: &[u8]) {
@@ -54,25 +56,25 @@ fn tell_fed(fed: Fed, lent: &[u8]) {
     tell_buffer(lent);
 }
 
-fn feed(input: &[u8], at: usize) -> usize {
+fn feed(values: &[u8]) -> &[u8] {
     let mut room = [0u8; LENT];
-    let stream = nth(at, WATCH + 1);
-    let behind = past_buffer(input, stream);
+    let stream = from(values, AND_ONE);
+    let rest = past_buffer(stream);
+    let lent = lend(rest, &mut room);
     let progress = Progress {
-        matcher: watch(input, at),
-        total: number(input, nth(at, WATCH)),
+        matcher: watch(values),
+        total: number(values, WATCH),
     };
-    let lent = lend(input, behind, &mut room);
-    let fed = report_core::feed(progress, buffer(input, stream), lent);
+    let fed = report_core::feed(progress, buffer(stream), lent);
     tell_fed(fed, lent);
-    past_buffer(input, behind)
+    past_buffer(rest)
 }
 
-pub(crate) fn call(op: u64, input: &[u8], at: usize) -> usize {
+pub(crate) fn call(op: u64, values: &[u8]) -> &[u8] {
     match op {
-        48 => midi(input, at),
-        56 => begin(input, at),
-        57 => feed(input, at),
-        _ => 0,
+        48 => midi(values),
+        56 => begin(values),
+        57 => feed(values),
+        _ => &values[0..0],
     }
 }

@@ -1,13 +1,12 @@
-// A watch's calls, and its records. Each function reads its values at a place and says the place behind them.
+// A watch's calls, and its records. Each function takes its values from the front of the input, and hands back what is left.
 use crate::bytes::LENT;
 use crate::bytes::LIST;
 use crate::bytes::buffer;
 use crate::bytes::byte;
+use crate::bytes::from;
 use crate::bytes::lend;
 use crate::bytes::lend_list;
-use crate::bytes::nth;
 use crate::bytes::number;
-use crate::bytes::on;
 use crate::bytes::past_buffer;
 use crate::bytes::past_list;
 use crate::bytes::tell;
@@ -37,12 +36,15 @@ use record::checkpoint::save_narrow;
 use record::checkpoint::save_narrow_behind;
 use signature::MAX_LENGTH;
 
-fn start(input: &[u8], at: usize) -> usize {
-    let started = Matcher::start(card(input, at));
+// How many numbers a watch and one number more have.
+pub(crate) const AND_ONE: u32 = WATCH + 1;
+
+fn start(values: &[u8]) -> &[u8] {
+    let started = Matcher::start(card(values));
     let verdict = started.verdict;
     tell_verdict(verdict);
     tell_watch(started.matcher);
-    nth(at, CARD)
+    from(values, CARD)
 }
 
 fn tell_stroke(stroke: Stroke) {
@@ -52,23 +54,21 @@ fn tell_stroke(stroke: Stroke) {
     tell_watch(stroke.matcher);
 }
 
-fn stroke(input: &[u8], at: usize) -> usize {
-    let behind = nth(at, WATCH);
-    tell_stroke(watch(input, at).stroke(byte(input, behind)));
-    on(behind, 8)
+fn stroke(values: &[u8]) -> &[u8] {
+    tell_stroke(watch(values).stroke(byte(values, WATCH)));
+    from(values, AND_ONE)
 }
 
-fn stroke_in_place(input: &[u8], at: usize) -> usize {
-    let behind = nth(at, WATCH);
-    tell_stroke(in_place::stroke_local(watch(input, at), byte(input, behind)));
-    on(behind, 8)
+fn stroke_in_place(values: &[u8]) -> &[u8] {
+    tell_stroke(in_place::stroke_local(watch(values), byte(values, WATCH)));
+    from(values, AND_ONE)
 }
 
 // A stream: each of its bytes has an answer.
-fn strokes(input: &[u8], at: usize) -> usize {
-    let behind = nth(at, WATCH);
-    let stream = buffer(input, behind);
-    let mut w = watch(input, at);
+fn strokes(values: &[u8]) -> &[u8] {
+    let rest = from(values, WATCH);
+    let stream = buffer(rest);
+    let mut w = watch(values);
     let mut i: usize = 0;
     while i < stream.len() {
         let stroke = w.stroke(stream[i]);
@@ -76,7 +76,7 @@ fn strokes(input: &[u8], at: usize) -> usize {
         w = stroke.matcher;
         i = i + 1;
     }
-    past_buffer(input, behind)
+    past_buffer(rest)
 }
 
 // The record that the call's number asks for.
@@ -89,24 +89,24 @@ fn parked(op: u64, watch: Matcher, buf: &mut [u8], used: usize) -> Written {
     }
 }
 
-// Parks a watch in the buffer at a place; where it goes behind a used part, that part's length stands behind the watch.
-fn park(op: u64, input: &[u8], at: usize, behind: usize) -> usize {
+// Parks a watch in the buffer behind so many numbers; where it goes behind a used part, that part's length stands behind the watch.
+fn park(op: u64, values: &[u8], before: u32) -> &[u8] {
     let mut room = [0u8; LENT];
-    let used = number(input, nth(at, WATCH)) as usize;
-    let lent = lend(input, behind, &mut room);
-    let written = parked(op, watch(input, at), lent, used);
+    let rest = from(values, before);
+    let lent = lend(rest, &mut room);
+    let written = parked(op, watch(values), lent, number(values, WATCH) as usize);
     tell_record(written, lent);
-    past_buffer(input, behind)
+    past_buffer(rest)
 }
 
-fn resume(input: &[u8], at: usize) -> usize {
-    let behind = nth(at, CARD);
-    let restored = restore(card(input, at), buffer(input, behind));
+fn resume(values: &[u8]) -> &[u8] {
+    let rest = from(values, CARD);
+    let restored = restore(card(values), buffer(rest));
     let verdict = restored.verdict;
     tell_verdict(verdict);
     tell(restored.taken as u64);
     tell_watch(restored.matcher);
-    past_buffer(input, behind)
+    past_buffer(rest)
 }
 
 fn tell_scan(scan: Scan, notes: &[u64]) {
@@ -118,20 +118,19 @@ fn tell_scan(scan: Scan, notes: &[u64]) {
     tell_list(notes);
 }
 
-fn scan(input: &[u8], at: usize) -> usize {
+fn scan(values: &[u8]) -> &[u8] {
     let mut room = [0u64; LIST];
-    let from = number(input, nth(at, WATCH)) as usize;
-    let stream = nth(at, WATCH + 1);
-    let behind = past_buffer(input, stream);
-    let notes = lend_list(input, behind, &mut room);
-    let scan = watch(input, at).scan(buffer(input, stream), from, notes);
+    let stream = from(values, AND_ONE);
+    let rest = past_buffer(stream);
+    let notes = lend_list(rest, &mut room);
+    let scan = watch(values).scan(buffer(stream), number(values, WATCH) as usize, notes);
     tell_scan(scan, notes);
-    past_list(input, behind)
+    past_list(rest)
 }
 
-fn watch_fits(input: &[u8], at: usize) -> usize {
-    tell_whether(watch(input, at).fits());
-    nth(at, WATCH)
+fn watch_fits(values: &[u8]) -> &[u8] {
+    tell_whether(watch(values).fits());
+    from(values, WATCH)
 }
 
 fn tell_turn(turn: Turn) {
@@ -145,27 +144,25 @@ fn tell_turn(turn: Turn) {
 }
 
 // A stroke as a rack makes it: under a table of a key's powers, of a watch that was put in at a count.
-fn stroke_shared(input: &[u8], at: usize) -> usize {
-    let behind = nth(at, WATCH);
-    let powers = Powers::of(key(input, behind), MAX_LENGTH);
-    let since = number(input, nth(behind, 1));
-    let byte = byte(input, nth(behind, 2));
-    tell_turn(watch(input, at).stroke_shared(powers, since, byte));
-    nth(behind, 3)
+fn stroke_shared(values: &[u8]) -> &[u8] {
+    let rest = from(values, WATCH);
+    let powers = Powers::of(key(rest, 0), MAX_LENGTH);
+    tell_turn(watch(values).stroke_shared(powers, number(rest, 1), byte(rest, 2)));
+    from(rest, 3)
 }
 
-pub(crate) fn call(op: u64, input: &[u8], at: usize) -> usize {
+pub(crate) fn call(op: u64, values: &[u8]) -> &[u8] {
     match op {
-        16 => start(input, at),
-        17 => stroke(input, at),
-        18 => stroke_in_place(input, at),
-        19 => strokes(input, at),
-        20 | 22 => park(op, input, at, nth(at, WATCH)),
-        21 | 23 => park(op, input, at, nth(at, WATCH + 1)),
-        24 => resume(input, at),
-        25 => scan(input, at),
-        26 => watch_fits(input, at),
-        27 => stroke_shared(input, at),
-        _ => 0,
+        16 => start(values),
+        17 => stroke(values),
+        18 => stroke_in_place(values),
+        19 => strokes(values),
+        20 | 22 => park(op, values, WATCH),
+        21 | 23 => park(op, values, AND_ONE),
+        24 => resume(values),
+        25 => scan(values),
+        26 => watch_fits(values),
+        27 => stroke_shared(values),
+        _ => &values[0..0],
     }
 }

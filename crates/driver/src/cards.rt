@@ -1,5 +1,5 @@
 // Cards and half-made cards as numbers.
-use crate::bytes::nth;
+use crate::bytes::from;
 use crate::bytes::tell_all;
 use crate::bytes::word;
 use fingerprint::Fingerprint;
@@ -15,20 +15,20 @@ pub(crate) const CARD: u32 = 2 + COUNT;
 
 pub(crate) const BUILDER: u32 = 4 + COUNT;
 
-pub(crate) fn key(input: &[u8], at: usize) -> Key {
-    Key::new(word(input, at))
+pub(crate) fn key(values: &[u8], i: u32) -> Key {
+    Key::new(word(values, i))
 }
 
-pub(crate) fn print(input: &[u8], at: usize) -> Fingerprint {
-    Fingerprint::of_number(word(input, at))
+pub(crate) fn print(values: &[u8], i: u32) -> Fingerprint {
+    Fingerprint::of_number(word(values, i))
 }
 
-fn prints(input: &[u8], at: usize) -> [Fingerprint; PLACES] {
+fn prints(values: &[u8]) -> [Fingerprint; PLACES] {
     let nothing = Fingerprint::empty();
     let mut prints = [nothing; PLACES];
     let mut i: u32 = 0;
     while i < COUNT {
-        prints[i as usize] = print(input, nth(at, i));
+        prints[i as usize] = print(values, i);
         i = i + 1;
     }
     prints
@@ -45,11 +45,11 @@ fn tell_prints(prints: [Fingerprint; PLACES]) {
     tell_all(&numbers);
 }
 
-pub(crate) fn card(input: &[u8], at: usize) -> Signature {
+pub(crate) fn card(values: &[u8]) -> Signature {
     Signature {
-        length: word(input, at),
-        key: key(input, nth(at, 1)),
-        prints: prints(input, nth(at, 2)),
+        length: word(values, 0),
+        key: key(values, 1),
+        prints: prints(from(values, 2)),
     }
 }
 
@@ -61,13 +61,13 @@ pub(crate) fn tell_card(card: Signature) {
     tell_prints(prints);
 }
 
-pub(crate) fn builder(input: &[u8], at: usize) -> Builder {
+pub(crate) fn builder(values: &[u8]) -> Builder {
     Builder {
-        length: word(input, at),
-        key: key(input, nth(at, 1)),
-        taken: word(input, nth(at, 2)),
-        print: print(input, nth(at, 3)),
-        prints: prints(input, nth(at, 4)),
+        length: word(values, 0),
+        key: key(values, 1),
+        taken: word(values, 2),
+        print: print(values, 3),
+        prints: prints(from(values, 4)),
     }
 }
 

@@ -11,42 +11,43 @@ mod racks; // racks.rt: racks and their calls
 mod calls_of_programs; // calls_of_programs.rt: MIDI files, and the printing program's steps
 mod calls_of_parts; // calls_of_parts.rt: fingerprints and single stages
 
+use crate::bytes::behind;
+use crate::bytes::from;
 use crate::bytes::number;
-use crate::bytes::on;
-use crate::bytes::part;
+use crate::bytes::until;
 
 // The most bytes of calls in one run.
 const ROOM: usize = 1048576;
 
-// One call, at a place of the input; the place behind it. At a number that no call has it is 0.
-fn call(input: &[u8], at: usize) -> usize {
-    let op = number(input, at);
-    let values = on(at, 8);
+// One call, at the front of the input; what is left behind it. Where no call has its number, nothing is left.
+fn call(input: &[u8]) -> &[u8] {
+    let op = number(input, 0);
+    let values = from(input, 1);
     match op {
-        0..=15 => calls_of_cards::call(op, input, values),
-        16..=31 => calls_of_watches::call(op, input, values),
-        32..=47 => racks::call(op, input, values),
-        48..=63 => calls_of_programs::call(op, input, values),
-        _ => calls_of_parts::call(op, input, values),
+        0..=15 => calls_of_cards::call(op, values),
+        16..=31 => calls_of_watches::call(op, values),
+        32..=47 => racks::call(op, values),
+        48..=63 => calls_of_programs::call(op, values),
+        _ => calls_of_parts::call(op, values),
     }
 }
 
-// Call after call, up to the end of the input or a number that no call has.
+// Call after call, as long as there is input left and less than before.
 fn run(input: &[u8]) {
     let mut at: usize = 0;
     while at < input.len() {
-        let next = call(input, at);
-        if next <= at {
+        let left = call(behind(input, at)).len();
+        if input.len() - at <= left {
             return;
         }
-        at = next;
+        at = input.len() - left;
     }
 }
 
 // Reads the calls and runs them.
 fn serve(room: &mut [u8]) {
     let got = descriptor::fill(STDIN_FILENO, room);
-    run(part(room, 0, got.count));
+    run(until(room, got.count));
 }
 
 // The same with the program's own buffer.

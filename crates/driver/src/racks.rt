@@ -1,9 +1,8 @@
-// Racks as numbers, and their calls. Each call reads its values at a place and says the place behind them.
+// Racks as numbers, and their calls. Each call takes its values from the front of the input, and hands back what is left.
 use crate::bytes::byte;
+use crate::bytes::from;
 use crate::bytes::half;
-use crate::bytes::nth;
 use crate::bytes::number;
-use crate::bytes::on;
 use crate::bytes::tell;
 use crate::bytes::tell_all;
 use crate::bytes::tell_verdict;
@@ -27,17 +26,26 @@ use rack::Reports;
 
 const PLACES: usize = CARDS as usize;
 
-// How many numbers a place and a rack have.
+// How many numbers a place and a rack have, and how many stand before a place's stages and before a rack's places.
 const PLACE: u32 = 2 + CARD + STAGES_OF;
 
 const RACK: u32 = 1 + MARK + PLACE * CARDS;
 
-fn place(input: &[u8], at: usize) -> Place {
+const BEFORE_STAGES: u32 = 2 + CARD;
+
+const BEFORE_PLACES: u32 = 1 + MARK;
+
+// How many numbers a rack and one number more have, and these with a card.
+const AND_ONE: u32 = RACK + 1;
+
+const AND_CARD: u32 = AND_ONE + CARD;
+
+fn place(values: &[u8]) -> Place {
     Place {
-        name: half(input, at),
-        since: number(input, nth(at, 1)),
-        signature: card(input, nth(at, 2)),
-        stages: stages(input, nth(at, 2 + CARD)),
+        name: half(values, 0),
+        since: number(values, 1),
+        signature: card(from(values, 2)),
+        stages: stages(from(values, BEFORE_STAGES)),
     }
 }
 
@@ -49,17 +57,17 @@ fn tell_place(place: Place) {
     tell_stages(stages);
 }
 
-fn rack(input: &[u8], at: usize) -> Rack {
+fn rack(values: &[u8]) -> Rack {
     let nothing = Place::none();
     let mut places = [nothing; PLACES];
     let mut i: u32 = 0;
     while i < CARDS {
-        places[i as usize] = place(input, nth(at, 1 + MARK + PLACE * i));
+        places[i as usize] = place(from(values, BEFORE_PLACES + PLACE * i));
         i = i + 1;
     }
     Rack {
-        key: key(input, at),
-        now: mark(input, nth(at, 1)),
+        key: key(values, 0),
+        now: mark(from(values, 1)),
         places,
     }
 }
@@ -94,46 +102,43 @@ fn tell_changed(changed: Changed) {
     tell_rack(changed.rack);
 }
 
-fn begin(input: &[u8], at: usize) -> usize {
-    tell_changed(Rack::begin(key(input, at)));
-    on(at, 8)
+fn begin(values: &[u8]) -> &[u8] {
+    tell_changed(Rack::begin(key(values, 0)));
+    from(values, 1)
 }
 
-fn put_in(input: &[u8], at: usize) -> usize {
-    let named = nth(at, RACK);
-    let carded = on(named, 8);
-    tell_changed(rack(input, at).put_in(half(input, named), card(input, carded)));
-    nth(carded, CARD)
+fn put_in(values: &[u8]) -> &[u8] {
+    let signature = card(from(values, AND_ONE));
+    tell_changed(rack(values).put_in(half(values, RACK), signature));
+    from(values, AND_CARD)
 }
 
-fn take_out(input: &[u8], at: usize) -> usize {
-    let named = nth(at, RACK);
-    tell_changed(rack(input, at).take_out(half(input, named)));
-    on(named, 8)
+fn take_out(values: &[u8]) -> &[u8] {
+    tell_changed(rack(values).take_out(half(values, RACK)));
+    from(values, AND_ONE)
 }
 
-fn stroke(input: &[u8], at: usize) -> usize {
-    let behind = nth(at, RACK);
-    let struck = rack(input, at).stroke(byte(input, behind));
+fn stroke(values: &[u8]) -> &[u8] {
+    let struck = rack(values).stroke(byte(values, RACK));
     let verdict = struck.verdict;
     tell_verdict(verdict);
     tell_reports(struck.reports);
     tell_rack(struck.rack);
-    on(behind, 8)
+    from(values, AND_ONE)
 }
 
-fn fits(input: &[u8], at: usize) -> usize {
-    tell_whether(rack(input, at).fits());
-    nth(at, RACK)
+fn fits(values: &[u8]) -> &[u8] {
+    tell_whether(rack(values).fits());
+    from(values, RACK)
 }
 
-pub(crate) fn call(op: u64, input: &[u8], at: usize) -> usize {
+pub(crate) fn call(op: u64, values: &[u8]) -> &[u8] {
     match op {
-        32 => begin(input, at),
-        33 => put_in(input, at),
-        34 => take_out(input, at),
-        35 => stroke(input, at),
-        36 => fits(input, at),
-        _ => 0,
+        32 => begin(values),
+        33 => put_in(values),
+        34 => take_out(values),
+        35 => stroke(values),
+        36 => fits(values),
+        _ => &values[0..0],
     }
 }

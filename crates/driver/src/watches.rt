@@ -1,5 +1,5 @@
 // Stages, watches and the answers to a byte as numbers.
-use crate::bytes::nth;
+use crate::bytes::from;
 use crate::bytes::number;
 use crate::bytes::tell_all;
 use crate::bytes::word;
@@ -18,7 +18,7 @@ use stage::Stage;
 
 const COUNT: u32 = STAGES as u32;
 
-// How many numbers a mark, a stage, all stages and a watch have.
+// How many numbers a mark, a stage, all stages and a watch have, and how many stand before a watch's stages.
 pub(crate) const MARK: u32 = 2;
 
 pub(crate) const STAGE: u32 = 7;
@@ -27,10 +27,12 @@ pub(crate) const STAGES_OF: u32 = STAGE * COUNT;
 
 pub(crate) const WATCH: u32 = CARD + MARK + STAGES_OF;
 
-pub(crate) fn mark(input: &[u8], at: usize) -> Mark {
+const BEFORE_STAGES: u32 = CARD + MARK;
+
+pub(crate) fn mark(values: &[u8]) -> Mark {
     Mark {
-        at: number(input, at),
-        print: print(input, nth(at, 1)),
+        at: number(values, 0),
+        print: print(values, 1),
     }
 }
 
@@ -40,14 +42,14 @@ pub(crate) fn tell_mark(mark: Mark) {
     tell_all(&numbers);
 }
 
-pub(crate) fn stage(input: &[u8], at: usize) -> Stage {
+pub(crate) fn stage(values: &[u8]) -> Stage {
     Stage {
-        held: word(input, at),
-        first: mark(input, nth(at, 1)),
-        last: mark(input, nth(at, 3)),
+        held: word(values, 0),
+        first: mark(from(values, 1)),
+        last: mark(from(values, 3)),
         step: Gap {
-            length: word(input, nth(at, 5)),
-            print: print(input, nth(at, 6)),
+            length: word(values, 5),
+            print: print(values, 6),
         },
     }
 }
@@ -68,12 +70,12 @@ pub(crate) fn tell_stage(stage: Stage) {
     tell_all(&numbers);
 }
 
-pub(crate) fn stages(input: &[u8], at: usize) -> [Stage; STAGES] {
+pub(crate) fn stages(values: &[u8]) -> [Stage; STAGES] {
     let nothing = Stage::none();
     let mut stages = [nothing; STAGES];
     let mut i: u32 = 0;
     while i < COUNT {
-        stages[i as usize] = stage(input, nth(at, STAGE * i));
+        stages[i as usize] = stage(from(values, STAGE * i));
         i = i + 1;
     }
     stages
@@ -88,11 +90,11 @@ pub(crate) fn tell_stages(stages: [Stage; STAGES]) {
     }
 }
 
-pub(crate) fn watch(input: &[u8], at: usize) -> Matcher {
+pub(crate) fn watch(values: &[u8]) -> Matcher {
     Matcher {
-        signature: card(input, at),
-        now: mark(input, nth(at, CARD)),
-        stages: stages(input, nth(at, CARD + MARK)),
+        signature: card(values),
+        now: mark(from(values, CARD)),
+        stages: stages(from(values, BEFORE_STAGES)),
     }
 }
 

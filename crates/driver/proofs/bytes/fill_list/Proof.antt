@@ -7,10 +7,10 @@ use Rattle.driver.proofs.bytes.fill_list.Statement.{statement}
 use Rattle.driver.proofs.bytes.fill_list.Tie as tie
 
 abbrev Inv-loop : tie.InvT-loop
-Inv-loop input at numbers₀ next₀ i₀ numbers next i = length numbers ≡ length numbers₀
+Inv-loop values numbers₀ i₀ numbers i = length numbers ≡ length numbers₀
 
 abbrev μ-loop : tie.MeasureT-loop
-μ-loop input at numbers₀ next₀ i₀ numbers next i = 4096 - i
+μ-loop values numbers₀ i₀ numbers i = 4096 - i
 
 pub fill-list-spec : {M : Type 1} → statement M
 fill-list-spec =
@@ -19,10 +19,10 @@ fill-list-spec =
     Inv-loop
     μ-loop
     (λ c. search needs)
+    (λ c. search needs)
     (λ c κs. search needs)
     (λ c. search needs)
     (λ c. search needs)
-    (λ c κs. search needs)
     (λ c. search needs)
     (λ c. search needs)
     (λ c. search needs)

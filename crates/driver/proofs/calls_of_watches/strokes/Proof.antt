@@ -6,10 +6,10 @@ use Rattle.driver.proofs.calls_of_watches.strokes.Statement.{statement}
 use Rattle.driver.proofs.calls_of_watches.strokes.Tie as tie
 
 abbrev Inv-loop : tie.InvT-loop
-Inv-loop input at behind stream w₀ i₀ w i = Unit {0}
+Inv-loop values rest stream w₀ i₀ w i = Unit {0}
 
 abbrev μ-loop : tie.MeasureT-loop
-μ-loop input at behind stream w₀ i₀ w i = length stream - i
+μ-loop values rest stream w₀ i₀ w i = length stream - i
 
 pub strokes-spec : {M : Type 1} → statement M
 strokes-spec =
