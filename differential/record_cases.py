@@ -148,6 +148,5 @@ def both_kinds():
         yield from one_behind_another(size)
 
 
-CASES = [("heads of parked records", heads), ("fronts of parked records", fronts),
-         ("bytes of parked records replaced", bytes_replaced), ("buffers of every size", sizes),
-         ("records one behind another", both_kinds)]
+CASES = [("heads of parked records", heads), ("fronts of parked records", fronts), ("buffers of every size", sizes),
+         ("records one behind another", both_kinds), ("bytes of parked records replaced", bytes_replaced)]

@@ -29,8 +29,8 @@ import watch_cases
 
 # The groups: words, and a function that gives the cases, each (words, call, values). A case may have a function besides
 # that is asked in place of what must come back: it says what is amiss with an answer, None for nothing.
-GROUPS = [*card_cases.CASES, *watch_cases.CASES, *record_cases.CASES, *rubbed_cases.CASES, *step_cases.CASES,
-          *ladder_cases.CASES, *random_cases.CASES, *rack_cases.CASES, *midi_cases.CASES]
+GROUPS = [*card_cases.CASES, *watch_cases.CASES, *step_cases.CASES, *ladder_cases.CASES, *random_cases.CASES,
+          *rack_cases.CASES, *midi_cases.CASES, *record_cases.CASES, *rubbed_cases.CASES]
 
 FAILED_CALL = os.path.join(programs.ROOT, "target", "differential", "failed-call.bin")
 SHOWN = 10                      # how many failing cases of a group are named

@@ -151,6 +151,11 @@ SPANS = [
     (16, 3, PAST_NARROW + 4, 4294967295, PAST_NARROW - 11, PAST_NARROW - 4, 4294967295),
     (16, 3, PAST_NARROW + 4, 2, PAST_NARROW - 4, PAST_NARROW - 11, 4294967289),
     (16, 3, PAST_NARROW + 4, 0, PAST_NARROW, PAST_NARROW, 0),
+    # (held - 1) × step is last - first only modulo 2^32.
+    *[(16, 3, 100, reach * pow(step, -1, 2 ** 32) % 2 ** 32 + 1, 85, 85 + reach, step)
+      for reach in (4, 6, 7) for step in (3, 5, 4294967295)],
+    *[(16, 3, 100, 2 ** 31 + reach // 2 + 1, 85, 85 + reach, 2) for reach in (0, 4, 6)],
+    *[(16, 3, 100, 3, 85, 85 + reach, 2 ** 31 + reach // 2) for reach in (0, 4, 6)],
     (1048576, 19, LAST_T, 2, LAST_T - 1048575, LAST_T - 524288, 524287),
     (1048576, 19, LAST_T, 524288, LAST_T - 1048575, LAST_T - 524288, 1),
     (1048576, 19, LAST_T, 4294967295, LAST_T - 1048575, LAST_T - 524288, 4294967295),
