@@ -6,7 +6,7 @@ use lib.ListN.{length, take}
 use Rattle.fingerprint.specs.declared.Key.{Key}
 use Rattle.refusal.specs.Number.{number}
 use Rattle.signature.specs.Signature.{signatureOf}
-use Rattle.record.specs.Layout.{signatureRecord}
+use Rattle.card_record.specs.Layout.{signatureRecord}
 use Rattle.card_core.specs.Card.{cardRefusal}
 use Rattle.card.specs.declared.Status.the-variants.{Written, Refused, Unreadable, Unwritable}
 use Rattle.card.specs.declared.Outcome.{Outcome}

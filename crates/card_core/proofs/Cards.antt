@@ -10,8 +10,8 @@ use borrow.Author.Tests.{ne-eqb}
 use Rattle.fingerprint.specs.declared.Key.{Key}
 use Rattle.signature.specs.declared.Signature.{Signature}
 use Rattle.signature.specs.Signature.{signatureOf}
-use Rattle.record.specs.Layout.{signatureRecord}
-use Rattle.record.specs.Calls.{writeRefusal, writeUsed, writeBuffer}
+use Rattle.card_record.specs.Layout.{signatureRecord}
+use Rattle.card_record.specs.Calls.{writeRefusal, writeUsed, writeBuffer}
 use Rattle.card_core.specs.Card.{makeRefusal, madeSignature, cardRefusal, cardUsed, cardBuffer}
 
 module _ (key : Key) (passage entry : List ℕ) where

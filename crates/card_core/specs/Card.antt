@@ -8,8 +8,9 @@ use Rattle.fingerprint.specs.declared.Key.{Key}
 use Rattle.signature.specs.declared.Signature.{Signature}
 use Rattle.signature.specs.Signature.{maxLength, noSignature, signatureOf}
 use Rattle.signature.specs.Calls.{beginRefusal}
-use Rattle.record.specs.Layout.{signatureRecord}
-use Rattle.record.specs.Calls.{before, writeRefusal}
+use Rattle.record.specs.Calls.{before}
+use Rattle.card_record.specs.Layout.{signatureRecord}
+use Rattle.card_record.specs.Calls.{writeRefusal}
 
 -- One more than the longest passage.
 abbrev pub overlong : ℕ

@@ -23,17 +23,17 @@ use crate::watches::tell_answer;
 use crate::watches::tell_stages;
 use crate::watches::tell_watch;
 use crate::watches::watch;
+use checkpoint_restore::restore;
+use checkpoint_save::save;
+use checkpoint_save::save_behind;
+use checkpoint_save::save_narrow;
+use checkpoint_save::save_narrow_behind;
 use matcher::Matcher;
 use matcher::Scan;
 use matcher::Stroke;
 use matcher::Turn;
 use powers::Powers;
 use record::Written;
-use record::checkpoint::restore;
-use record::checkpoint::save;
-use record::checkpoint::save_behind;
-use record::checkpoint::save_narrow;
-use record::checkpoint::save_narrow_behind;
 use signature::MAX_LENGTH;
 
 // How many numbers a watch and one number more have.

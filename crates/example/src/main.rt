@@ -1,14 +1,14 @@
 // The library in use: a card is made from a passage, its watch takes bytes, is parked in the middle of the passage, resumed, and rings at the
 // passage's last byte. Then a rack: two passages on one line. (README.md shows these lines.)
 use card_core::make;
+use checkpoint_restore::restore;
+use checkpoint_save::save;
 use fingerprint::Key;
 use matcher::Matcher;
 use matcher::Ring;
 use rack::CARDS;
 use rack::Rack;
 use rack::Reports;
-use record::checkpoint::restore;
-use record::checkpoint::save;
 
 // A ring at byte t.
 fn say(t: u64, ring: Ring) {

@@ -3,14 +3,15 @@
 use Prim.Native.Nat.{ℕ, zero, suc, _+_, _*_, _≤_, _<_}
 use mathlib.Core.Path.{_≡_, refl, sym, _∙_, ap, subst}
 use mathlib.Core.Logic.{⊎-elim}
-use mathlib.Core.List.{List, [], _++_, map, map-append, append-assoc, append-nil}
+use mathlib.Core.List.{List, [], _∷_, _++_, map, map-append, append-assoc, append-nil}
 use native.Mathlib.Nat.{not-suc-le-zero, eq-or-lt-of-le, le-of-suc-le-suc}
 use native.Mathlib.Numerals.{add-one}
 use native.Mathlib.Omega.{arith}
 use lib.ListN.{length, take, drop, length-append}
 use Rattle.fields.specs.Fields.{Field, widths, size, bytesOf, valuesAt, EachFits, gathered, stamped}
-use Rattle.fields.proofs.Laws.{length-bytes, bytes-append, size-append, part-of, values-part, fit-append}
-use Rattle.fields.proofs.Pasted.{pasted-none, pasted-pasted}
+use Rattle.fields.specs.Calls.{putAt, putEach}
+use Rattle.fields.proofs.Laws.{length-bytes, bytes-append, size-append, part-of, values-part, fit-append, put-field}
+use Rattle.fields.proofs.Pasted.{length-pasted, pasted-none, pasted-pasted}
 
 -- what stands behind part i
 pub record Split {A : Type 0} (f : ℕ → List A) (n i : ℕ) : Type 0 where
@@ -86,6 +87,30 @@ pub stamped-stamped :
     → stamped (stamped l at us) next vs ≡ stamped l at (us ++ vs)
 stamped-stamped l us at vs next e h =
     rw (bytes-append us vs) (pasted-pasted l (bytesOf us) at (bytesOf vs) next (omega (arith, length-bytes us)) h)
+
+-- Fields are written where there is room for all of them.
+pub put-each :
+    (fields : List Field) (s : List ℕ) (at : ℕ) → at + size (widths fields) ≤ length s → putEach s at fields ≡ stamped s at fields
+unfolding putEach bytesOf size
+put-each [] s at h = sym (pasted-none s at)
+put-each (f ∷ fields) s at h =
+    let one : List Field = f ∷ [] in
+    let same : length (stamped s at one) ≡ length s =
+    length-pasted s (bytesOf one) at (omega (arith, length-bytes one))
+    in
+    rw (put-field s at (f .width) (f .value) (omega arith))
+    (put-each fields (stamped s at one) (at + f .width) (omega arith)
+    ∙ stamped-stamped s one at fields (at + f .width) (omega arith) (omega arith))
+
+-- and behind fields that stand there
+pub stamped-each :
+    (l : List ℕ) (us : List Field) (at : ℕ) (vs : List Field) (next : ℕ)
+    → next ≡ at + size (widths us)
+    → next + size (widths vs) ≤ length l
+    → putEach (stamped l at us) next vs ≡ stamped l at (us ++ vs)
+stamped-each l us at vs next e h =
+    let same : length (stamped l at us) ≡ length l = length-pasted l (bytesOf us) at (omega (arith, length-bytes us)) in
+    put-each vs (stamped l at us) next (omega arith) ∙ stamped-stamped l us at vs next e (omega arith)
 
 pub stamped-none : (l : List ℕ) (at : ℕ) (f : ℕ → List Field) → l ≡ stamped l at (gathered f 0)
 unfolding bytesOf gathered

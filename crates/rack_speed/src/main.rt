@@ -1,12 +1,12 @@
 // A rack beside as many lone watches, for measuring (differential/bench): the same cards and stream bring the same line of sums. Standard
 // input is `w` for the watches or `r` for the rack, one byte that is the number of cards, their records one behind another, and the stream.
 // The line has the numbers of bytes, comparisons and rings, and the sum of the rung starts; it is empty where the cards cannot be read.
+use card_record::read_signature;
 use fingerprint::Key;
 use matcher::Matcher;
 use matcher::Ring;
 use rack::Rack;
 use rack::Reports;
-use record::read_signature;
 use refusal::Verdict;
 use signature::Signature;
 

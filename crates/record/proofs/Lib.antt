@@ -1,13 +1,6 @@
 pub mod Sizes
-mod Positions
-mod Fits
 pub mod Head
-mod Assembled
-mod Reading
-mod Restoring
-mod Behind
-pub mod Refused
-pub mod SignatureRoundTrip
-pub mod CheckpointRoundTrip
+pub mod Fits
+pub mod Writing
 pub mod Accepted
-pub mod Formats
+pub mod Refused

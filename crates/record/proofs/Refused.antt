@@ -1,20 +1,18 @@
--- "A refused call changes .. no byte of a buffer": what a refused writer leaves, also behind a used part.
+-- "A refused call changes .. no byte of a buffer": what a refused writer leaves; and that a refusal has a number.
 -- Assumes nothing.
 use Prim.Native.Nat.{ℕ}
-use mathlib.Core.Path.{_≡_}
+use mathlib.Core.Path.{_≡_, refl}
 use mathlib.Core.List.{List}
-use native.Mathlib.Nat.{add-zero}
-use lib.ListN.{take-append-drop}
 use borrow.Author.Tests.{ne-eqb}
-use Rattle.matcher.specs.declared.Matcher.{Matcher}
-use Rattle.record.specs.declared.Format.{Format}
-use Rattle.record.specs.Calls.{putRefusal, putBuffer, behindRefusal, behindUsed, behindBuffer}
+use Rattle.refusal.specs.declared.Refusal.{Refusal}
+use Rattle.refusal.specs.declared.Verdict.the-variants.{Refused}
+use Rattle.refusal.specs.Number.{refusalNumber}
+use Rattle.refusal.proofs.Distinct.{refused-some}
+use Rattle.record.specs.Calls.{putRefusal, putBuffer}
 
 pub refused-put : (judged : ℕ) (bytes entry : List ℕ) → (putRefusal judged bytes entry ≡ 0 → ⊥) → putBuffer judged bytes entry ≡ entry
 refused-put judged bytes entry refused = rw (ne-eqb _ _ refused)
 
-pub refused-behind :
-    (f : Format) (w : Matcher) (entry : List ℕ) (used : ℕ)
-    → (behindRefusal f w entry used ≡ 0 → ⊥)
-    → (behindBuffer f w entry used ≡ entry) × (behindUsed f w entry used ≡ used)
-refused-behind f w entry used refused = rw (ne-eqb _ _ refused) (take-append-drop used entry, add-zero used)
+-- A refusal's number is not that of an acceptance.
+pub refusal-given : (r : Refusal) → refusalNumber r ≡ 0 → ⊥
+refusal-given r e = refused-some {v = Refused r} refl e

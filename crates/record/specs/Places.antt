@@ -1,23 +1,12 @@
--- Sizes and places in bytes as the code has them. proofs/Sizes.antt and proofs/Positions.antt show that they are those of the field lists.
+-- Sizes and places in bytes as the code has them: those of the field lists.
 use Prim.Native.Nat.{ℕ, _+_}
-use Rattle.record.specs.declared.Format.{Format}
-use Rattle.record.specs.declared.Format.the-variants.{Narrow, Wide}
-use Rattle.record.specs.Layout.{lengthWidth, kindWidth, wordWidth, placeWidth}
+use Rattle.record.specs.Layout.{lengthWidth, kindWidth, wordWidth}
 
 abbrev pub keySize : ℕ
 keySize = 4
 
 abbrev pub printSize : ℕ
 printSize = 4
-
-abbrev pub markSize : Format → ℕ
-markSize f = placeWidth f + printSize
-
-abbrev pub gapSize : ℕ
-gapSize = wordWidth + printSize
-
-abbrev pub stageSize : Format → ℕ
-stageSize f = wordWidth + markSize f + markSize f + gapSize
 
 abbrev pub mPlace : ℕ
 mPlace = lengthWidth + kindWidth
@@ -27,23 +16,3 @@ keyPlace = mPlace + wordWidth
 
 abbrev pub printPlace : ℕ
 printPlace = keyPlace + keySize
-
-abbrev pub nowPlace : ℕ
-nowPlace = printPlace + printSize
-
-abbrev pub stagesPlace : Format → ℕ
-stagesPlace f = nowPlace + markSize f
-
--- "98 bytes, the longest card record".
-abbrev pub longestSignature : ℕ
-longestSignature = 98
-
--- "at most 586 bytes with the length field"; a wide record, whose "length is 26 + 36k", has at most 750.
-abbrev pub longestCheckpoint : Format → ℕ
-longestCheckpoint Narrow = 586
-longestCheckpoint Wide = 750
-
--- "a parked record of m = 1 has 26 bytes"; a wide one: "at m = 1 the whole takes 30 bytes".
-abbrev pub shortestCheckpoint : Format → ℕ
-shortestCheckpoint Narrow = 26
-shortestCheckpoint Wide = 30

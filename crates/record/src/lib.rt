@@ -1,64 +1,44 @@
-// Records of signatures and checkpoints (document 01, "Records"): written into a lent buffer, and read back.
+// What records are made of (document 01, "Records"), each at a place of a slice: numbers of 4 bytes, keys, fingerprints, and the head.
+// What is written where there is no room for it leaves the slice as it was.
 ghost use mathlib.Core.Path.{_≡_};
-ghost use Prim.Native.Nat.{_+_, _*_, _≤_, _<_};
-ghost use lib.ListN.{length};
-ghost use Rattle.ladder.specs.Prefix.{levels};
-ghost use Rattle.lists.specs.Lists.{tabulate};
-ghost use Rattle.refusal.specs.Number.{refusalNumber, number};
-ghost use Rattle.signature.specs.Signature.{places, noSignature};
-ghost use Rattle.fields.specs.Fields.{valuesAt, gathered, stamped, pasted};
+ghost use mathlib.Core.List.{[], _∷_};
+ghost use Rattle.fields.specs.Calls.{putEach};
+ghost use Rattle.fields.specs.Fields.{widths, numberAt, valuesAt};
+ghost use Rattle.fingerprint.specs.Fingerprint.{empty, keyOf, printOf, noKey};
 ghost use Rattle.record.specs.Layout.{
-  lengthWidth,
-  printFieldsOf,
-  signatureLength,
-  signatureWidths,
-  signatureRecord,
-  signatureAt,
-  signaturePlace,
+  wordWidth,
+  word,
+  kindField,
+  keyFields,
+  printFields,
 };
-ghost use Rattle.record.specs.Places.{printSize, printPlace};
-ghost use Rattle.record.specs.Calls.{
-  writeRefusal,
-  writeUsed,
-  writeBuffer,
-  readRefusal,
-  readSignature,
-  readTaken,
-};
+ghost use Rattle.record.specs.Calls.{headRefusal};
+ghost use Rattle.refusal.specs.Number.{number};
+use fields::Found;
+use fields::Width;
+use fields::field_at;
+use fields::number_at;
+use fields::put;
 use fingerprint::Fingerprint;
+use fingerprint::Key;
 use refusal::Refusal;
 use refusal::Verdict;
-use signature::PLACES;
-use signature::Signature;
-use signature::levels;
 
-mod part; // part.rt: numbers, keys and fingerprints at a place of a slice, and a record's head
-pub mod checkpoint; // checkpoint.rt: checkpoints of matchers
+// Sizes in bytes.
+pub const WORD: usize = 4;
 
-use crate::part::KEY_AT;
-use crate::part::M_AT;
-use crate::part::PRINT_AT;
-use crate::part::PRINT_SIZE;
-use crate::part::WORD;
-use crate::part::check_head;
-use crate::part::key_at;
-use crate::part::print_at;
-use crate::part::put_head;
-use crate::part::put_key;
-use crate::part::put_print;
-use crate::part::put_word;
-use crate::part::word_at;
+pub const KEY_SIZE: usize = 4;
 
-// The kind of a card's record, and the least length field that one can have.
-pub const SIGNATURE_KIND: u64 = 3;
+pub const PRINT_SIZE: usize = 4;
 
-pub const SIGNATURE_LEAST: u64 = 10;
+// Places in bytes: behind the length field the kind, m, the key, and the first fingerprint.
+pub const KIND_AT: usize = WORD;
 
-// The two records of a parked watch: a wide one has places of the stream in 8 bytes, a narrow one in 4.
-pub enum Format {
-    Narrow,
-    Wide,
-}
+pub const M_AT: usize = KIND_AT + 2;
+
+pub const KEY_AT: usize = M_AT + WORD;
+
+pub const PRINT_AT: usize = KEY_AT + KEY_SIZE;
 
 // What a writer hands back: the bytes used, 0 where the call is refused; behind a used part, the new used length, the old one where the
 // call is refused.
@@ -67,143 +47,71 @@ pub struct Written {
     pub used: usize,
 }
 
-// What reading a card hands back: the card, and the bytes taken; all 0 where the call is refused.
-pub struct SignatureRead {
-    pub verdict: Verdict,
-    pub signature: Signature,
-    pub taken: usize,
+// The number in a field of 4 bytes, 0 where it is missing.
+pub fn word_at(buf: &[u8], at: usize) -> u32
+    ensures { λ n. ⌜ n ≡ numberAt (now (buf .entry)) at wordWidth ⌝ }
+{
+    number_at(buf, at, Width::Word) as u32
 }
 
-// How many bytes a card's record has, for k stages.
-fn signature_size(k: u32) -> usize
-    ensures { λ n. ⌜ n ≡ signatureLength k + lengthWidth ⌝ }
+pub fn put_word(buf: &mut [u8], at: usize, value: u32)
+    ensures { λ _. ⌜ now (buf .exit) ≡ putEach (now (buf .entry)) at (word value ∷ []) ⌝ }
 {
-    PRINT_AT + PRINT_SIZE * ((k as usize) + 1)
+    put(buf, at, Width::Word, value as u64);
 }
 
-// Writes the first n fingerprints.
-fn put_prints(buf: &mut [u8], prints: [Fingerprint; PLACES], n: usize)
-    requires { ⌜ (printPlace + printSize * n ≤ length (now buf)) × (n ≤ places) ⌝ }
-    ensures { λ _. ⌜ now (buf .exit) ≡ stamped (now (buf .entry)) printPlace (gathered (printFieldsOf prints) n) ⌝ }
+// A key is one field.
+pub fn put_key(buf: &mut [u8], at: usize, key: Key)
+    ensures { λ _. ⌜ now (buf .exit) ≡ putEach (now (buf .entry)) at (keyFields key) ⌝ }
 {
-    let mut i: usize = 0;
-    while i < n {
-        let print = prints[i];
-        put_print(buf, PRINT_AT + PRINT_SIZE * i, print);
-        i = i + 1;
-    }
+    put_word(buf, at, key.number());
 }
 
-// Writes the card's record at the front of a buffer that has room for it.
-fn put_signature(buf: &mut [u8], signature: Signature, k: u32)
-    requires { ⌜ (k ≡ levels (signature .length)) × (k < places) × (printPlace + printSize * (k + 1) ≤ length (now buf)) ⌝ }
-    ensures { λ _. ⌜ now (buf .exit) ≡ pasted (now (buf .entry)) 0 (signatureRecord signature) ⌝ }
+pub fn key_at(buf: &[u8], at: usize) -> Key
+    ensures { λ key. ⌜ key ≡ keyOf (valuesAt (now (buf .entry)) at (widths (keyFields noKey))) ⌝ }
 {
-    let key = signature.key;
-    let prints = signature.prints;
-    put_head(buf, (signature_size(k) - WORD) as u32, SIGNATURE_KIND);
-    put_word(buf, M_AT, signature.length);
-    put_key(buf, KEY_AT, key);
-    put_prints(buf, prints, (k as usize) + 1);
+    Key::new(word_at(buf, at))
 }
 
-// Writes a card into the front of the buffer. Refusals: 10 misfit, 7 no space.
-pub fn write_signature(signature: Signature, buf: &mut [u8]) -> Written
-    ensures verdict { λ r. ⌜ number (r .verdict) ≡ writeRefusal signature (now (buf .entry)) ⌝ }
-    ensures used { λ r. ⌜ r .used ≡ writeUsed signature (now (buf .entry)) ⌝ }
-    ensures buffer { λ r. ⌜ now (buf .exit) ≡ writeBuffer signature (now (buf .entry)) ⌝ }
+// A fingerprint is one field.
+pub fn put_print(buf: &mut [u8], at: usize, print: Fingerprint)
+    ensures { λ _. ⌜ now (buf .exit) ≡ putEach (now (buf .entry)) at (printFields print) ⌝ }
 {
-    if !signature.fits() {
-        return Written {
-            verdict: Verdict::Refused(Refusal::Misfit),
-            used: 0,
-        };
-    }
-    let k = levels(signature.length);
-    let size = signature_size(k);
-    if buf.len() < size {
-        return Written {
-            verdict: Verdict::Refused(Refusal::NoSpace),
-            used: 0,
-        };
-    }
-    put_signature(buf, signature, k);
-    Written {
-        verdict: Verdict::Accepted,
-        used: size,
-    }
+    put_word(buf, at, print.number());
 }
 
-// The fingerprint at place i of a card's record with k stages: nothing past P_k.
-fn place_at(buf: &[u8], k: u32, i: usize) -> Fingerprint
-    requires { ⌜ i < places ⌝ }
-    ensures { λ print. ⌜ print ≡ signaturePlace (valuesAt (now (buf .entry)) 0 (signatureWidths k)) k i ⌝ }
+pub fn print_at(buf: &[u8], at: usize) -> Fingerprint
+    ensures { λ print. ⌜ print ≡ printOf (valuesAt (now (buf .entry)) at (widths (printFields empty))) ⌝ }
 {
-    if (k as usize) < i {
-        return Fingerprint::empty();
-    }
-    print_at(buf, PRINT_AT + PRINT_SIZE * i)
+    Fingerprint::of_number(word_at(buf, at))
 }
 
-fn prints_at(buf: &[u8], k: u32) -> [Fingerprint; PLACES]
-    ensures { λ prints. ⌜ prints ≡ tabulate (signaturePlace (valuesAt (now (buf .entry)) 0 (signatureWidths k)) k) places ⌝ }
+// Length and kind, before a record's other fields.
+pub fn put_head(buf: &mut [u8], length: u32, kind: u64)
+    ensures { λ _. ⌜ now (buf .exit) ≡ putEach (now (buf .entry)) 0 (word length ∷ kindField kind ∷ []) ⌝ }
 {
-    let nothing = Fingerprint::empty();
-    let mut prints = [nothing; PLACES];
-    let mut i: usize = 0;
-    while i < PLACES {
-        prints[i] = place_at(buf, k, i);
-        i = i + 1;
-    }
-    prints
+    put_word(buf, 0, length);
+    put(buf, KIND_AT, Width::Half, kind);
 }
 
-// The card that a card's record makes.
-fn signature_at(buf: &[u8]) -> Signature
-    ensures { λ signature. ⌜ signature ≡ signatureAt (now (buf .entry)) ⌝ }
+// Reads the head of a record: 8, length under 2 (10), 9, length under the least of its kind (10).
+pub fn check_head(buf: &[u8], kind: u64, least: u64) -> Verdict
+    ensures { λ r. ⌜ number r ≡ headRefusal kind least (now (buf .entry)) ⌝ }
 {
-    let m = word_at(buf, M_AT);
-    let key = key_at(buf, KEY_AT);
-    let prints = prints_at(buf, levels(m));
-    Signature {
-        length: m,
-        key,
-        prints,
+    let Found::Number(length) = field_at(buf, 0, Width::Word) else {
+        return Verdict::Refused(Refusal::Short);
+    };
+    if ((buf.len() - WORD) as u64) < length {
+        return Verdict::Refused(Refusal::Short);
     }
-}
-
-fn unread(refusal: Refusal) -> SignatureRead
-    ensures { λ r. ⌜ (number (r .verdict) ≡ refusalNumber refusal) × (r .signature ≡ noSignature) × (r .taken ≡ 0) ⌝ }
-{
-    SignatureRead {
-        verdict: Verdict::Refused(refusal),
-        signature: Signature::none(),
-        taken: 0,
+    if length < 2 {
+        return Verdict::Refused(Refusal::Misfit);
     }
-}
-
-// Reads a card. Refusals: those of the head, then 10 where the length does not suit k or the card misfits.
-pub fn read_signature(buf: &[u8]) -> SignatureRead
-    ensures verdict { λ r. ⌜ number (r .verdict) ≡ readRefusal (now (buf .entry)) ⌝ }
-    ensures signature { λ r. ⌜ r .signature ≡ readSignature (now (buf .entry)) ⌝ }
-    ensures taken { λ r. ⌜ r .taken ≡ readTaken (now (buf .entry)) ⌝ }
-{
-    let head = check_head(buf, SIGNATURE_KIND, SIGNATURE_LEAST);
-    if let Verdict::Refused(refusal) = head {
-        return unread(refusal);
+    if number_at(buf, KIND_AT, Width::Half) != kind {
+        return Verdict::Refused(Refusal::Kind);
     }
-    let taken = (word_at(buf, 0) as usize) + WORD;
-    let k = levels(word_at(buf, M_AT));
-    if taken != signature_size(k) {
-        return unread(Refusal::Misfit);
+    if length < least {
+        return Verdict::Refused(Refusal::Misfit);
     }
-    let signature = signature_at(buf);
-    if !signature.fits() {
-        return unread(Refusal::Misfit);
-    }
-    SignatureRead {
-        verdict: Verdict::Accepted,
-        signature,
-        taken,
-    }
+    Verdict::Accepted
 }

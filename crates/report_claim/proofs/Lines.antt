@@ -14,7 +14,7 @@ use Rattle.signature.specs.declared.Signature.{Signature}
 use Rattle.matcher.specs.declared.Matcher.{Matcher}
 use Rattle.stage.specs.Stage.{maxTaken}
 use Rattle.matcher.specs.Stroke.{strokeAnswer, afterStroke}
-use Rattle.record.specs.Calls.{readRefusal, readSignature, readTaken}
+use Rattle.card_record.specs.Calls.{readRefusal, readSignature, readTaken}
 use Rattle.refinement.specs.Refinement.{watchOf}
 use Rattle.whole_run.specs.History.{Taken, History, bytesOf}
 use Rattle.whole_run.specs.Run.{CardOf, Call, core, stroke, Run, starts, takes}

@@ -10,7 +10,7 @@ use Rattle.fingerprint.specs.Fingerprint.{agreeUnder}
 use Rattle.ladder.specs.Claim.{Claim}
 use Rattle.matcher.specs.declared.Matcher.{Matcher}
 use Rattle.stage.specs.Stage.{maxTaken}
-use Rattle.record.specs.Calls.{readSignature, readTaken}
+use Rattle.card_record.specs.Calls.{readSignature, readTaken}
 use Rattle.whole_run.specs.History.{History, bytesOf, answersOf}
 use Rattle.whole_run.specs.Run.{Call, Run}
 use Rattle.whole_run.specs.Strokes.{totalOf}

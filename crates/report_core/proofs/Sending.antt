@@ -19,8 +19,10 @@ use Rattle.signature.specs.declared.Signature.{Signature}
 use Rattle.signature.specs.Signature.{signatureFits}
 use Rattle.matcher.proofs.FreshFits.{fresh-fits}
 use Rattle.ladder.specs.Prefix.{levels}
-use Rattle.record.specs.Layout.{lengthField, patternLength, signatureKind, signatureLength, signatureAt}
-use Rattle.record.specs.Calls.{headRefusal, signatureLeast, signatureSuits, readRefusal, readSignature, readTaken}
+use Rattle.record.specs.Layout.{lengthField, patternLength}
+use Rattle.record.specs.Calls.{headRefusal}
+use Rattle.card_record.specs.Layout.{signatureKind, signatureLength, signatureAt}
+use Rattle.card_record.specs.Calls.{signatureLeast, signatureSuits, readRefusal, readSignature, readTaken}
 use Rattle.report_core.specs.declared.Begun.{Begun}
 use Rattle.report_core.specs.declared.Progress.{Progress}
 use Rattle.report_core.specs.Output.{cardBytes, front, output, transcript}

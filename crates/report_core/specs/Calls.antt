@@ -7,7 +7,7 @@ use lib.ListN.{length, drop}
 use lib.Dec.{leb, eqb}
 use Rattle.refusal.specs.Number.{number}
 use Rattle.matcher.specs.Matcher.{fresh}
-use Rattle.record.specs.Calls.{readRefusal, readSignature, readTaken}
+use Rattle.card_record.specs.Calls.{readRefusal, readSignature, readTaken}
 use Rattle.report_lines.specs.declared.Put.{Put}
 use Rattle.report_lines.specs.declared.Put.the-variants.{Full, Next}
 use Rattle.report_lines.specs.Lines.{lineX, lineE, room}

@@ -7,8 +7,8 @@ use lib.Dec.{eqb}
 use Rattle.matcher.specs.declared.Matcher.{Matcher}
 use Rattle.matcher.specs.Matcher.{fresh}
 use Rattle.matcher.specs.Stroke.{strokeRefusal, strokeAnswer, afterStroke}
-use Rattle.record.specs.Calls.{readRefusal, readSignature, readTaken}
-use Rattle.record.specs.Places.{longestSignature}
+use Rattle.card_record.specs.Places.{longestSignature}
+use Rattle.card_record.specs.Calls.{readRefusal, readSignature, readTaken}
 use Rattle.report_lines.specs.Lines.{lineX, lineE, reportLines}
 
 -- "last `E t total`, total being all comparisons"

@@ -9,11 +9,14 @@ use native.Mathlib.Omega.{arith}
 use lib.ListN.{length, take, drop, take-append-drop, length-drop}
 use lib.Seq.{length-take-le, take-append-seam, drop-at}
 use Rattle.matcher.specs.declared.Matcher.{Matcher}
-use Rattle.record.specs.declared.Format.{Format}
-use Rattle.record.specs.Layout.{checkpointRecord}
-use Rattle.record.specs.Calls.{putRefusal, putUsed, putBuffer, canSay, watchJudged, saveRefusal, saveUsed, saveBuffer, behindRefusal, behindBuffer}
-use Rattle.record.proofs.Accepted.{put-passed, judged-passed}
-use Rattle.record.proofs.Sizes.{checkpoint-size}
+use Rattle.checkpoint_format.specs.declared.Format.{Format}
+use Rattle.record.specs.Calls.{putRefusal, putUsed, putBuffer}
+use Rattle.checkpoint_format.specs.Layout.{checkpointRecord}
+use Rattle.checkpoint_format.specs.Calls.{canSay}
+use Rattle.checkpoint_save.specs.Calls.{watchJudged, saveRefusal, saveUsed, saveBuffer, behindRefusal, behindBuffer}
+use Rattle.record.proofs.Accepted.{put-passed}
+use Rattle.checkpoint_format.proofs.Sizes.{checkpoint-size}
+use Rattle.checkpoint_save.proofs.Accepted.{judged-passed}
 use Rattle.whole_run.specs.Run.{BeginsWith}
 
 -- the buffer is the bytes that it begins with and a rest

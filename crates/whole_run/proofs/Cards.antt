@@ -10,9 +10,9 @@ use Rattle.signature.specs.declared.Signature.{Signature}
 use Rattle.signature.specs.Signature.{places, signatureOf}
 use Rattle.made_from.specs.MadeFrom.{MadeSignature}
 use Rattle.made_from.proofs.Made.{made-card}
-use Rattle.record.specs.Layout.{signatureRecord}
-use Rattle.record.specs.Calls.{cardJudged, readRefusal, readSignature}
-use Rattle.record.proofs.SignatureRoundTrip as round-trip
+use Rattle.card_record.specs.Layout.{signatureRecord}
+use Rattle.card_record.specs.Calls.{cardJudged, readRefusal, readSignature}
+use Rattle.card_record.proofs.SignatureRoundTrip as round-trip
 use Rattle.whole_run.specs.Run.{BeginsWith, CardOf, made, read-back}
 use Rattle.whole_run.proofs.Buffers.{begins-rest, put-front}
 

@@ -13,10 +13,12 @@ use Rattle.matcher.specs.declared.Matcher.{Matcher}
 use Rattle.stage.specs.Stage.{maxTaken}
 use Rattle.matcher.specs.Matcher.{matcherFits, freshRefusal}
 use Rattle.matcher.specs.Stroke.{strokeRefusal}
-use Rattle.record.specs.declared.Format.{Format}
-use Rattle.record.specs.declared.Format.the-variants.{Narrow}
-use Rattle.record.specs.Layout.{checkpointRecord}
-use Rattle.record.specs.Calls.{canSay, watchJudged, saveRefusal, saveUsed, saveBuffer, behindRefusal, behindBuffer, restoreRefusal, restoredMatcher}
+use Rattle.checkpoint_format.specs.declared.Format.{Format}
+use Rattle.checkpoint_format.specs.declared.Format.the-variants.{Narrow}
+use Rattle.checkpoint_format.specs.Layout.{checkpointRecord}
+use Rattle.checkpoint_format.specs.Calls.{canSay}
+use Rattle.checkpoint_save.specs.Calls.{watchJudged, saveRefusal, saveUsed, saveBuffer, behindRefusal, behindBuffer}
+use Rattle.checkpoint_restore.specs.Calls.{restoreRefusal, restoredMatcher}
 use Rattle.whole_run.specs.History.{History, bytesOf}
 use Rattle.whole_run.specs.Run.{BeginsWith, CardOf, Call, Run, Wrote}
 use Rattle.whole_run.proofs.Buffers.{put-front, parked-says, behind-front}

@@ -21,10 +21,12 @@ use Rattle.matcher.specs.Stroke.{strokeRefusal, strokeAnswer, afterStroke}
 use Rattle.refinement.specs.Refinement.{passageTests, watchOf, Refines}
 use Rattle.refinement.proofs.WatchFits as watch-fits
 use Rattle.refinement.proofs.Passages.{passage-refines}
-use Rattle.record.specs.declared.Format.{Format}
-use Rattle.record.specs.Layout.{checkpointRecord}
-use Rattle.record.specs.Calls.{canSay, watchJudged, saveRefusal, saveUsed, saveBuffer, behindRefusal, behindBuffer, restoreRefusal, restoredMatcher}
-use Rattle.record.proofs.CheckpointRoundTrip.{restore-accepted, restore-back}
+use Rattle.checkpoint_format.specs.declared.Format.{Format}
+use Rattle.checkpoint_format.specs.Layout.{checkpointRecord}
+use Rattle.checkpoint_format.specs.Calls.{canSay}
+use Rattle.checkpoint_save.specs.Calls.{watchJudged, saveRefusal, saveUsed, saveBuffer, behindRefusal, behindBuffer}
+use Rattle.checkpoint_restore.specs.Calls.{restoreRefusal, restoredMatcher}
+use Rattle.checkpoint_restore.proofs.CheckpointRoundTrip.{restore-accepted, restore-back}
 use Rattle.whole_run.specs.History.{Taken, History, bytesOf}
 use Rattle.whole_run.specs.Run.{
   BeginsWith,

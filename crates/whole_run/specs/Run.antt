@@ -9,21 +9,10 @@ use Rattle.signature.specs.Made.{Made}
 use Rattle.matcher.specs.declared.Matcher.{Matcher}
 use Rattle.matcher.specs.Matcher.{freshRefusal, fresh}
 use Rattle.matcher.specs.Stroke.{strokeRefusal, strokeAnswer, afterStroke}
-use Rattle.record.specs.declared.Format.{Format}
-use Rattle.record.specs.Calls.{
-  writeRefusal,
-  writeUsed,
-  writeBuffer,
-  readRefusal,
-  readSignature,
-  saveRefusal,
-  saveUsed,
-  saveBuffer,
-  behindRefusal,
-  behindBuffer,
-  restoreRefusal,
-  restoredMatcher,
-}
+use Rattle.checkpoint_format.specs.declared.Format.{Format}
+use Rattle.card_record.specs.Calls.{writeRefusal, writeUsed, writeBuffer, readRefusal, readSignature}
+use Rattle.checkpoint_save.specs.Calls.{saveRefusal, saveUsed, saveBuffer, behindRefusal, behindBuffer}
+use Rattle.checkpoint_restore.specs.Calls.{restoreRefusal, restoredMatcher}
 use Rattle.whole_run.specs.History.{History}
 
 -- A buffer begins with these bytes.

@@ -8,7 +8,7 @@ use Rattle.descriptor.proofs.Written.{all-written}
 use Rattle.refusal.specs.Number.{number}
 use Rattle.refusal.proofs.Distinct.{refused-some}
 use Rattle.signature.specs.Signature.{signatureOf}
-use Rattle.record.specs.Layout.{signatureRecord}
+use Rattle.card_record.specs.Layout.{signatureRecord}
 use Rattle.card_core.specs.Card.{cardRefusal}
 use Rattle.card_core.proofs.Cards.{stands}
 use Rattle.card.specs.Outcome as outcome

@@ -1,7 +1,7 @@
 -- `report_core::begin` meets its contract: what reading the card and starting its watch promise.
 use mathlib.Core.Path.{refl, _∙_, ap}
 use Rattle.matcher.specs.Matcher.{fresh}
-use Rattle.record.specs.Calls.{readRefusal, readSignature, readTaken}
+use Rattle.card_record.specs.Calls.{readRefusal, readSignature, readTaken}
 use Rattle.report_core.proofs.Hearing.{progress-by}
 use borrow.Author.Needs.{needs}
 use Rattle.report_core.proofs.begin.Statement.{statement}

@@ -32,11 +32,11 @@ use crate::tally::STREAMS;
 use crate::tally::add;
 use crate::tally::mix_record;
 use crate::tally::tick;
+use checkpoint_restore::Restored;
+use checkpoint_restore::restore;
 use matcher::Matcher;
 use matcher::Stroke;
 use record::Written;
-use record::checkpoint::Restored;
-use record::checkpoint::restore;
 use signature::Signature;
 
 // Where a list of calls stands: the watch, how many bytes its history has, where the bytes come from, the generator's state, and the

@@ -15,16 +15,16 @@ use crate::tally::RESUMED;
 use crate::tally::expect;
 use crate::tally::mix_record;
 use crate::tally::tick;
+use card_record::read_signature;
+use card_record::write_signature;
+use checkpoint_restore::Restored;
+use checkpoint_restore::restore;
+use checkpoint_save::save;
+use checkpoint_save::save_behind;
+use checkpoint_save::save_narrow;
+use checkpoint_save::save_narrow_behind;
 use matcher::Matcher;
 use record::Written;
-use record::checkpoint::Restored;
-use record::checkpoint::restore;
-use record::checkpoint::save;
-use record::checkpoint::save_behind;
-use record::checkpoint::save_narrow;
-use record::checkpoint::save_narrow_behind;
-use record::read_signature;
-use record::write_signature;
 use signature::Signature;
 
 // What a buffer holds before anything is written to it.

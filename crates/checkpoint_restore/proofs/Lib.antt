@@ -1,0 +1,4 @@
+pub mod Positions
+mod Restoring
+pub mod Accepted
+pub mod CheckpointRoundTrip

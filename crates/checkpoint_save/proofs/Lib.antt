@@ -1,0 +1,4 @@
+mod Assembled
+mod Behind
+pub mod Refused
+pub mod Accepted
