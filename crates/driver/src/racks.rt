@@ -18,11 +18,11 @@ use crate::watches::stages;
 use crate::watches::tell_answer;
 use crate::watches::tell_mark;
 use crate::watches::tell_stages;
-use rack::CARDS;
 use rack::Changed;
-use rack::Place;
 use rack::Rack;
-use rack::Reports;
+use rack_names::CARDS;
+use rack_place::Place;
+use rack_report::Reports;
 
 const PLACES: usize = CARDS as usize;
 

@@ -12,7 +12,7 @@ use borrow.Author.Tests.{lt-ltb, le-ltb}
 use Rattle.lists.specs.Lists.{chosen}
 use Rattle.lists.proofs.Choices.{chosen-same, chosen-none, chosen-one-more}
 use Rattle.lists.proofs.Cases.{by-test}
-use Rattle.rack.specs.declared.Place.{Place}
+use Rattle.rack_place.specs.declared.Place.{Place}
 use Rattle.rack.specs.Rack.{rackPlaces, nowhere, isFree, apart, hasName, freePlace, cardsBelow, cardsIn}
 use Rattle.rack.proofs.Lookups.{
   used-named,

@@ -11,7 +11,7 @@ use lib.ListN.{getD}
 use borrow.Author.Tests.{ltb-true, lt-ltb, eqb-true, eq-eqb, ne-eqb, not-true}
 use Rattle.lists.proofs.Laws.{and-left, and-right, every-at}
 use Rattle.lists.proofs.Cases.{by-test}
-use Rattle.rack.specs.declared.Place.{Place}
+use Rattle.rack_place.specs.declared.Place.{Place}
 use Rattle.rack.specs.Rack.{rackPlaces, nowhere, isFree, apart, namesApart, hasName, firstPlace, placeOf, freePlace, isIn, placeNamed}
 
 -- Whether a place has a card under a name.

@@ -1,63 +1,29 @@
 -- A rack and when it misfits; putting a card in, taking one out, and a stroke (document 02, A.1).
-use Prim.Native.Nat.{ℕ, zero, suc, _+_, _-_}
+use Prim.Native.Nat.{ℕ, zero, suc}
 use mathlib.Core.Bool.{Bool, cond, not, _&&_, _||_}
-use mathlib.Core.List.{List, [], _∷_, _++_, map}
-use lib.ListN.{length, getD, set, replicate}
+use mathlib.Core.List.{List, map}
+use lib.ListN.{getD, set, replicate}
 use lib.Dec.{leb, ltb, eqb}
 use Rattle.fingerprint.specs.declared.Key.{Key}
-use Rattle.fingerprint.specs.declared.Fingerprint.{Fingerprint}
-use Rattle.fingerprint.specs.Fingerprint.{keyFits, sameKey, noKey, same, empty}
+use Rattle.fingerprint.specs.Fingerprint.{keyFits, sameKey, noKey}
 use Rattle.lists.specs.Lists.{every, tabulate, chosen}
 use Rattle.signature.specs.declared.Signature.{Signature}
-use Rattle.signature.specs.Signature.{places, noSignature, signatureFits}
+use Rattle.signature.specs.Signature.{signatureFits}
 use Rattle.stage.specs.declared.Mark.{Mark}
-use Rattle.stage.specs.declared.Stage.{Stage}
 use Rattle.matcher.specs.declared.Matcher.{Matcher}
-use Rattle.matcher.specs.declared.Ring.{Ring}
-use Rattle.matcher.specs.declared.Ring.the-variants.{Silent, At}
-use Rattle.stage.specs.Stage.{maxTaken, origin, nowFits, noneFits}
-use Rattle.stage.specs.Stages.{stageCount, Stages, stageAt, noStages, stagesFit}
+use Rattle.stage.specs.Stage.{maxTaken, origin, nowFits}
+use Rattle.stage.specs.Stages.{noStages, stagesFit}
 pub use Rattle.stage.specs.Stages.{listedFrom, allFrom}
-use Rattle.matcher.specs.Stroke.{nextMark, noAnswer, strokeAnswer, afterStroke}
-use Rattle.rack.specs.declared.Place.{Place}
+use Rattle.matcher.specs.Stroke.{nextMark, strokeAnswer, afterStroke}
+pub use Rattle.rack_names.specs.Names.{rackPlaces, nameCount}
+use Rattle.rack_place.specs.declared.Place.{Place}
+pub use Rattle.rack_place.specs.Place.{noPlace, nowhere, isFree, hasName, placeOf, freePlace}
+unfoldable pub use Rattle.rack_place.specs.Place.{isClear, firstPlace}
+use Rattle.rack_report.specs.declared.Report.{Report}
+use Rattle.rack_report.specs.declared.Reports.{Reports}
+pub use Rattle.rack_report.specs.Report.{noReport, noReports, handedOut}
+unfoldable pub use Rattle.rack_report.specs.Report.{comparisonsOf, filled}
 use Rattle.rack.specs.declared.Rack.{Rack}
-use Rattle.rack.specs.declared.Report.{Report}
-use Rattle.rack.specs.declared.Reports.{Reports}
-
--- "It holds up to 16 cards ..
-abbrev pub rackPlaces : ℕ
-rackPlaces = 16
-
--- .. under names 0 to 65535".
-abbrev pub nameCount : ℕ
-nameCount = 65536
-
-abbrev pub noPlace : Place
-noPlace = record { name = 0; since = 0; signature = noSignature; stages = noStages }
-
--- What a list of places is read as past its end; no rack is read there.
-abbrev pub nowhere : Place
-nowhere = record { name = 0; since = 0; signature = record { length = 0; key = noKey; prints = [] }; stages = [] }
-
--- A card has at least one byte, so a place whose card has none is free.
-abbrev pub isFree : Place → Bool
-isFree p = eqb (p .signature .length) 0
-
--- "a free place not all 0"
-abbrev pub clearPrints : List Fingerprint → Bool
-clearPrints prints = every (λ i. same (getD prints i empty) empty) places
-
-abbrev pub clearSignature : Signature → Bool
-clearSignature s = eqb (s .length) 0 && sameKey (s .key) noKey && clearPrints (s .prints)
-
-abbrev pub clearStage : Stage → Bool
-clearStage s = eqb (s .held) 0 && noneFits s
-
-abbrev pub clearStages : Stages → Bool
-clearStages stages = every (λ i. clearStage (stageAt stages i)) stageCount
-
-unfoldable pub isClear : Place → Bool
-isClear p = eqb (p .name) 0 && eqb (p .since) 0 && clearSignature (p .signature) && clearStages (p .stages)
 
 -- "A card with another key is a misfit, as is a rack with a card or stage astray, .. c above t, a start below c".
 unfoldable pub usedFits : Key → ℕ → Place → Bool
@@ -104,21 +70,6 @@ emptyRack key = record { key = key; now = origin; places = replicate rackPlaces 
 
 unfoldable pub rackBegun : Key → Rack
 rackBegun key = cond (keyFits key) (emptyRack key) (emptyRack noKey)
-
--- Whether the place has a card under the name.
-abbrev pub hasName : ℕ → Place → Bool
-hasName name p = not (isFree p) && eqb (p .name) name
-
--- The first of n places from i on that passes a test, or the place behind them.
-unfoldable pub firstPlace : (Place → Bool) → List Place → ℕ → ℕ → ℕ
-firstPlace test places zero i = i
-firstPlace test places (suc n) i = cond (test (getD places i nowhere)) i (firstPlace test places n (suc i))
-
-abbrev pub placeOf : ℕ → List Place → ℕ
-placeOf name places = firstPlace (hasName name) places rackPlaces 0
-
-abbrev pub freePlace : List Place → ℕ
-freePlace places = firstPlace isFree places rackPlaces 0
 
 -- Whether a card is in under the name, and the place that has it.
 abbrev pub isIn : ℕ → List Place → Bool
@@ -201,31 +152,6 @@ reportOf r byte name = reportIn (r .now) (r .places) byte name
 unfoldable pub reportsOf : Rack → ℕ → List Report
 reportsOf r byte = map (reportOf r byte) (namesIn (r .places))
 
--- "The comparisons at one byte are the sum over the names".
-unfoldable pub comparisonsOf : List Report → ℕ
-comparisonsOf [] = 0
-comparisonsOf (x ∷ more) = x .answer .comparisons + comparisonsOf more
-
-abbrev pub noReport : Report
-noReport = record { name = 0; answer = noAnswer }
-
--- as an array has them: the rest is 0
-unfoldable pub filled : List Report → List Report
-filled reports = reports ++ replicate (rackPlaces - length reports) noReport
-
--- What a stroke hands out: the reports, how many there are, and all their comparisons.
-abbrev pub handedOut : List Report → Reports
-handedOut reports =
-    record { reports = filled reports; many = length reports; comparisons = comparisonsOf reports }
-
-abbrev pub noReports : Reports
-noReports = record { reports = replicate rackPlaces noReport; many = 0; comparisons = 0 }
-
 -- What the byte brings to all names; nothing where it is refused.
 unfoldable pub rackReports : Rack → ℕ → Reports
 rackReports r byte = cond (eqb (rackStrokeRefusal r) 0) (handedOut (reportsOf r byte)) noReports
-
--- "whether a start rang, and which" (document 01): the start, or a number of the caller's where none rang.
-abbrev pub startOr : ℕ → Ring → ℕ
-startOr otherwise Silent = otherwise
-startOr otherwise (At start) = start

@@ -15,7 +15,7 @@ use Rattle.signature.specs.Signature.{signatureFits}
 use Rattle.stage.specs.Stage.{maxTaken}
 use Rattle.stage.specs.Stages.{noStages}
 use Rattle.matcher.specs.Stroke.{nextMark}
-use Rattle.rack.specs.declared.Place.{Place}
+use Rattle.rack_place.specs.declared.Place.{Place}
 use Rattle.rack.specs.declared.Rack.{Rack}
 use Rattle.rack.specs.Rack.{
   rackPlaces,

@@ -16,8 +16,8 @@ use Rattle.lists.proofs.Choices.{chosen-rising}
 use Rattle.lists.proofs.Cases.{by-test}
 use Rattle.matcher.proofs.Ceiling.{ceiling}
 use Rattle.rack.specs.declared.Rack.{Rack}
-use Rattle.rack.specs.declared.Report.{Report}
-use Rattle.rack.specs.declared.Reports.{Reports}
+use Rattle.rack_report.specs.declared.Report.{Report}
+use Rattle.rack_report.specs.declared.Reports.{Reports}
 use Rattle.rack.specs.Rack.{
   nameCount,
   isIn,

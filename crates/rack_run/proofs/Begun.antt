@@ -14,13 +14,12 @@ use Rattle.signature.specs.Signature.{places, noSignature}
 use Rattle.stage.specs.Stage.{noneFits}
 use Rattle.stage.specs.Stages.{stageCount, noStages}
 use Rattle.stage.proofs.Stages.{no-stage-at}
+use Rattle.rack_place.specs.Place.{clearPrints, clearStages}
 use Rattle.rack.specs.Rack.{
   rackPlaces,
   noPlace,
   nowhere,
   isFree,
-  clearPrints,
-  clearStages,
   isClear,
   placeAt,
   rackFits,

@@ -13,8 +13,8 @@ use Rattle.fingerprint.specs.declared.Key.{Key}
 use Rattle.lists.specs.Lists.{chosen}
 use Rattle.lists.proofs.Cases.{by-test}
 use Rattle.rack.specs.declared.Rack.{Rack}
-use Rattle.rack.specs.declared.Report.{Report}
-use Rattle.rack.specs.declared.Reports.{Reports}
+use Rattle.rack_report.specs.declared.Report.{Report}
+use Rattle.rack_report.specs.declared.Reports.{Reports}
 use Rattle.rack.specs.Rack.{nameCount, rackPlaces, rackFits, isIn, namesIn, rackStrokeRefusal, reportOf, reportsOf, handedOut, rackReports}
 use Rattle.rack_run.specs.Calls.{Call, put-in, take-out, stroke, Standing, refusalOf, bytesTaken, under}
 use Rattle.rack_run.specs.Ledger.{Tenant, Ledger, given, namesGiven, refusalDue, answerDue, reportsDue, handedOutDue}

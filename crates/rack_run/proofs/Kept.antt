@@ -16,7 +16,7 @@ use Rattle.stage.specs.Stages.{stageCount}
 use Rattle.stage.proofs.Fit.{idle}
 use Rattle.stage.proofs.Follows.{stage-fits, follows-none}
 use Rattle.stage.proofs.Stages.{no-stage-at}
-use Rattle.rack.specs.declared.Place.{Place}
+use Rattle.rack_place.specs.declared.Place.{Place}
 use Rattle.rack.specs.declared.Rack.{Rack}
 use Rattle.rack.specs.Rack.{
   rackPlaces,

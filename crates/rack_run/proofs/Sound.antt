@@ -15,7 +15,7 @@ use Rattle.signature.specs.Signature.{signatureFits}
 use Rattle.stage.specs.Stage.{nowFits}
 use Rattle.stage.specs.Stages.{stagesFit}
 use Rattle.stage.proofs.Now.{SoundNow, sound-now, now-fits}
-use Rattle.rack.specs.declared.Place.{Place}
+use Rattle.rack_place.specs.declared.Place.{Place}
 use Rattle.rack.specs.declared.Rack.{Rack}
 use Rattle.rack.specs.Rack.{
   rackPlaces,

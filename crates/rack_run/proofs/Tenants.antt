@@ -22,7 +22,7 @@ use Rattle.matcher.proofs.FreshFits.{fresh-fits}
 use Rattle.matcher.proofs.StrokeFits.{stroke-fits}
 use Rattle.raising.specs.Raised.{raisedWatch, raisedAnswer}
 use Rattle.raising.proofs.Strokes.{Base, raised-blank, raised-taken, raised-whole, raised-after}
-use Rattle.rack.specs.declared.Place.{Place}
+use Rattle.rack_place.specs.declared.Place.{Place}
 use Rattle.rack.specs.declared.Rack.{Rack}
 use Rattle.rack.specs.Rack.{isFree, isIn, placeNamed, watchAt, rackStrokeRefusal, struckPlace, afterRackStroke}
 use Rattle.rack_run.specs.Ledger.{Tenant, watchAfter, ownAnswer}

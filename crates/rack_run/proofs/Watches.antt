@@ -16,7 +16,7 @@ use Rattle.matcher.specs.Matcher.{matcherFits, moved}
 use Rattle.matcher.specs.Stroke.{nextMark, walked, strokeRefusal}
 use Rattle.matcher.proofs.Sound.{sound, sound-fits, stages-fit, after-taken}
 use Rattle.matcher.proofs.StrokeFits.{stroke-fits}
-use Rattle.rack.specs.declared.Place.{Place}
+use Rattle.rack_place.specs.declared.Place.{Place}
 use Rattle.rack.specs.declared.Rack.{Rack}
 use Rattle.rack.specs.Rack.{isFree, watchAt, struckPlace}
 use Rattle.rack_run.proofs.Sound.{SoundPlace, SoundRack}

@@ -9,8 +9,8 @@ use Rattle.fingerprint.specs.declared.Key.{Key}
 use Rattle.signature.specs.declared.Signature.{Signature}
 use Rattle.matcher.specs.declared.Answer.{Answer}
 use Rattle.rack.specs.declared.Rack.{Rack}
-use Rattle.rack.specs.declared.Report.{Report}
-use Rattle.rack.specs.declared.Reports.{Reports}
+use Rattle.rack_report.specs.declared.Report.{Report}
+use Rattle.rack_report.specs.declared.Reports.{Reports}
 use Rattle.rack.specs.Rack.{nameCount, rackBegun, putInRefusal, putIn, takeOutRefusal, takenOut, rackStrokeRefusal, rackReports, afterRackStroke}
 
 -- The calls of a rack that was begun.

@@ -18,8 +18,8 @@ use Rattle.matcher.specs.declared.Answer.{Answer}
 use Rattle.matcher.specs.Matcher.{fresh}
 use Rattle.matcher.specs.Stroke.{noAnswer, strokeRefusal, strokeAnswer, afterStroke}
 use Rattle.raising.specs.Raised.{raisedAnswer}
-use Rattle.rack.specs.declared.Report.{Report}
-use Rattle.rack.specs.declared.Reports.{Reports}
+use Rattle.rack_report.specs.declared.Report.{Report}
+use Rattle.rack_report.specs.declared.Reports.{Reports}
 use Rattle.rack.specs.Rack.{nameCount, rackPlaces, handedOut, noReports}
 use Rattle.rack_run.specs.Calls.{Call, put-in, take-out, stroke}
 
