@@ -141,7 +141,7 @@ def every_front(words, record, call, *before):
 
 
 def every_byte(words, record, call, *before, others=range(1, 256)):
-    """Each byte replaced by the numbers that are so much more, modulo 256; room behind it for what the length may say."""
+    """Each byte replaced by those that are so much more, modulo 256; there is room for what the length may say."""
     for at, was in enumerate(record):
         buffer = in_room(record) if at < 4 else record + filled(3)
         for more in others:

@@ -1,6 +1,6 @@
-"""Cases of whole histories, (words, call, values): streams from a watch that lists nothing, early and late. What values.py
-says of each byte, the answer and all numbers of the watch, is here held against the ladder with unlimited lists
-(reference.py), so that the driver is held against it too."""
+"""Cases of whole histories, (words, call, values): streams from a watch that lists nothing, early and late. What
+values.py says of each byte, the answer and all numbers of the watch, is here held against the ladder with unlimited
+lists (reference.py), so that the driver is held against it too."""
 
 import random
 

@@ -105,8 +105,9 @@ class Line:
     def run(self):
         """A scan, and the same bytes for the printing program."""
         data = bytes(self.byte() for _ in range(self.rng.randrange(60)))
-        at, size = self.rng.choice([0, 0, 0, len(data) // 2, len(data), len(data) + 1]), self.rng.choice([0, 5, 12, 300])
-        yield self.words, "scan", (self.watch, at, data, list_of(self.rng.choice([NOTE_ROOM - 1, NOTE_ROOM, 150]) + size))
+        at = self.rng.choice([0, 0, 0, len(data) // 2, len(data), len(data) + 1])
+        size = self.rng.choice([NOTE_ROOM - 1, NOTE_ROOM, 150]) + self.rng.choice([0, 5, 12, 300])
+        yield self.words, "scan", (self.watch, at, data, list_of(size))
         yield self.words, "report feed", (self.watch, self.rng.choice([0, 21 * self.watch[T]]), data,
                                           filled(self.rng.choice([2047, 2048, 2060, 2500, 5000])))
         self.watch = ([self.watch] + [one[2] for one in strokes(self.watch, data)])[-1]
@@ -177,8 +178,8 @@ def random_stage(rng, key, t, youngest, oldest, newcomer):
 
 
 def joinable(rng, key, stage, t, youngest, newcomer):
-    """The stage moved so that the newcomer stands one step behind its last start, and its gap has the step print; now and
-    then the gap is another, or its print is."""
+    """The stage moved so that the newcomer stands one step behind its last start, and its gap has the step print; now
+    and then the gap is another, or its print is."""
     start_then, f_then = newcomer
     held, first, step = stage[0], stage[1], stage[5]
     last = start_then - step - rng.choice([0, 0, 0, 0, 1, -1])
@@ -194,8 +195,8 @@ def random_watch(rng):
     """A watch that is no misfit, of any numbers, and a byte; ripe starts often match, newcomers often join."""
     card = random_card(rng)
     m, key = card[:2]
-    t = rng.choice([1, 2, m - 1, m, 2 * m, rng.randrange(4 * m), rng.randrange(LAST_T), LAST_NARROW_T - 1, LAST_NARROW_T,
-                    LAST_NARROW_T + 1, LAST_T - 1, LAST_T])
+    t = rng.choice([1, 2, m - 1, m, 2 * m, rng.randrange(4 * m), rng.randrange(LAST_T), LAST_NARROW_T - 1,
+                    LAST_NARROW_T, LAST_NARROW_T + 1, LAST_T - 1, LAST_T])
     watch = listing_nothing(card, t)
     if t:
         watch = with_numbers(watch, [(T + 1, rng.choice([0, P - 1, rng.randrange(P)]))])
@@ -228,7 +229,8 @@ def watch_calls(rng, words, watch, byte):
 def since_of(rng, watch):
     """A count: 0, t, or near a start that a stage lists."""
     starts = [watch[at + 1] for at in range(FIRST_STAGE, len(watch), STAGE) if watch[at]] or [watch[T]]
-    return rng.choice([0, watch[T], min(starts), max(min(starts) - 1, 0), min(min(starts) + 1, TOP), rng.choice(starts)])
+    least = min(starts)
+    return rng.choice([0, watch[T], least, max(least - 1, 0), min(least + 1, TOP), rng.choice(starts)])
 
 
 def no_histories():

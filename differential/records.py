@@ -5,8 +5,8 @@ document 01 ("Records", "The board's refusals") and requests A.4, A.5 and A.7 of
 from card import CARD_KIND, KIND, MISFIT, SHORT, Card, field, write_card
 from calls import PRINTS
 from parked import FORMS, LAST_NARROW_T, NARROW, WIDE, read_parked, whole_size, write_parked
-from values import (FIRST_STAGE, NO_CARD, NO_SPACE, NO_STAGES, NO_WATCH, STAGE, T, card_misfits, first_of, limits_misfit,
-                    make, tested_lengths, watch_misfits)
+from values import (FIRST_STAGE, NO_CARD, NO_SPACE, NO_STAGES, NO_WATCH, STAGE, T, card_misfits, first_of,
+                    limits_misfit, make, tested_lengths, watch_misfits)
 
 OTHER, TOO_WIDE = 11, 18
 

@@ -37,12 +37,12 @@ def byte_raised(number, byte, by):
 
 
 def replaced(stage, place, every):
-    """Each byte of a print replaced by all others, or by five: words, the stage, and whether it is tried in every call."""
+    """Each byte of a print replaced by all others, or by five: words, the stage, whether it is tried in every call."""
     for byte in range(4):
         for more in range(1, 256):
             if every or more % 51 == 0:
-                print_then = byte_raised(stage[place], byte, more)
-                yield "%s is %d" % (PRINT_WORDS[place], print_then), with_numbers(stage, [(place, print_then)]), more % 17 == 0
+                f = byte_raised(stage[place], byte, more)
+                yield "%s is %d" % (PRINT_WORDS[place], f), with_numbers(stage, [(place, f)]), more % 17 == 0
 
 
 def follows(stage, key):

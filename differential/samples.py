@@ -1,4 +1,4 @@
-"""Values that cases begin with: cards, half-made cards and watches of ones, early and late, and numbers replaced in them."""
+"""Values that cases begin with: cards, half-made cards and watches of ones, early and late; and numbers replaced."""
 
 from functools import lru_cache
 

@@ -18,8 +18,8 @@ T, F_T, FIRST_STAGE = CARD, CARD + 1, CARD + 2
 TAKEN, RUNNING, FIRST_PRINT = 2, 3, 4
 STAGE = SIZE["stage"]
 
-# "A refusal returns its number only": what stands beside it where no value was handed in that stays what it was is all 0
-# (docs/DECISIONS.md, readings 3 and 9).
+# "A refusal returns its number only": what stands beside it is all 0 where no value was handed in that stays what it
+# was (docs/DECISIONS.md, readings 3 and 9).
 NO_HALF, NO_CARD, NO_WATCH = (0,) * SIZE["half"], (0,) * CARD, (0,) * SIZE["watch"]
 NO_ANSWER, NO_STAGE, NO_STAGES = (0,) * SIZE["answer"], (0,) * STAGE, (0,) * SIZE["stages"]
 
@@ -261,7 +261,8 @@ def entered(stage, key, start, f):
     pair = (2, last, f_last, start, f, *to_newcomer)
     if held == 1:
         return pair, None
-    # "The newcomer is added if its gap to the last start equals the step and the bytes of that gap have the step print."
+    # "The newcomer is added if its gap to the last start equals the step and the bytes of that gap have the step
+    # print."
     if to_newcomer == (step, step_print):
         return (held + 1, first, f_first, start, f, step, step_print), None
     # "Otherwise all listed starts but the last are set aside, as (first, step, how many); the last and the newcomer
@@ -298,7 +299,8 @@ def one_byte(card, t, f, stages, byte):
             sets.append(aside)
 
     # "Stages are visited from k-1 down to 0. If stage i lists the start t - |P_(i+1)|, it is taken off and the last
-    # |P_(i+1)| bytes are compared by fingerprint with P_(i+1)." (Of a stage that is no misfit only the first can be it.)
+    # |P_(i+1)| bytes are compared by fingerprint with P_(i+1)." (Of a stage that is no misfit only the first can be
+    # it.)
     for i in range(k - 1, -1, -1):
         held, first, f_first = after[i][:3]
         if not held or first != now - lengths[i + 1]:
@@ -360,13 +362,14 @@ def strokes(watch, data):
 
 def stroke_shared(watch, key, since, byte):
     """A byte for a watch that shares the key, t and F_t with others, put in at a count."""
-    # A.1: "A card with another key is a misfit, as is a rack with a card or stage astray, [...] c above t, a start below c"
+    # A.1: "A card with another key is a misfit, as is a rack with a card or stage astray, [...] c above t, a start
+    # below c"
     if watch[1] != key or since > watch[T] or watch_misfits(watch) or lists_below(stages_of(watch), since):
         return MISFIT, 0, NO_ANSWER, stages_of(watch)
     if watch[T] == LAST_T:
         return SPENT, 0, NO_ANSWER, stages_of(watch)
     answer, stages = one_byte(card_of(watch), watch[T], watch[F_T], stages_of(watch), byte)
-    # Whether the stages were visited is left free (FREE): where it is 0 they must be as they were.
+    # Whether the stages were visited is left free: where it is 0 they must be as they were (wanted.py).
     visited = answer[3] > 1 or value(byte) == watch[2]
     return 0, int(visited), answer, stages
 

@@ -260,5 +260,6 @@ def short_streams():
         yield "M10 as stream, key %d" % key, "report feed", (watch, 0, M10, filled(2200))
 
 
-CASES = [("watches with numbers replaced", numbers_replaced), ("starts of every age", ages), ("watches among others", shared),
-         ("t at its limits", limits), ("scans", scans), ("late runs", runs), ("case L and the phantom", short_streams)]
+CASES = [("watches with numbers replaced", numbers_replaced), ("starts of every age", ages),
+         ("watches among others", shared), ("t at its limits", limits), ("scans", scans), ("late runs", runs),
+         ("case L and the phantom", short_streams)]
