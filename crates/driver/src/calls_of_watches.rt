@@ -29,11 +29,11 @@ use checkpoint_save::save_behind;
 use checkpoint_save::save_narrow;
 use checkpoint_save::save_narrow_behind;
 use matcher::Matcher;
-use matcher::Scan;
 use matcher::Stroke;
 use matcher::Turn;
 use powers::Powers;
 use record::Written;
+use scanner::Ended;
 use signature::MAX_LENGTH;
 
 // How many numbers a watch and one number more have.
@@ -109,7 +109,7 @@ fn resume(values: &[u8]) -> &[u8] {
     past_buffer(rest)
 }
 
-fn tell_scan(scan: Scan, notes: &[u64]) {
+fn tell_scan(scan: Ended, notes: &[u64]) {
     let verdict = scan.verdict;
     let counts = [scan.noted as u64, scan.comparisons, scan.next as u64];
     tell_verdict(verdict);
@@ -123,7 +123,12 @@ fn scan(values: &[u8]) -> &[u8] {
     let stream = from(values, AND_ONE);
     let rest = past_buffer(stream);
     let notes = lend_list(rest, &mut room);
-    let scan = watch(values).scan(buffer(stream), number(values, WATCH) as usize, notes);
+    let scan = scanner::scan(
+        watch(values),
+        buffer(stream),
+        number(values, WATCH) as usize,
+        notes,
+    );
     tell_scan(scan, notes);
     past_list(rest)
 }

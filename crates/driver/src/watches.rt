@@ -7,14 +7,14 @@ use crate::cards::CARD;
 use crate::cards::card;
 use crate::cards::print;
 use crate::cards::tell_card;
-use matcher::Answer;
 use matcher::Matcher;
-use matcher::Ring;
 use stage::Gap;
 use stage::Mark;
 use stage::Progression;
 use stage::STAGES;
 use stage::Stage;
+use walk::Answer;
+use walk::Ring;
 
 const COUNT: u32 = STAGES as u32;
 

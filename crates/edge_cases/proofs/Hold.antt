@@ -12,7 +12,8 @@ use Rattle.lists.specs.Lists.{every, tabulate}
 use Rattle.signature.specs.Signature.{printsFit, signatureFits, signatureOf}
 use Rattle.stage.specs.Stage.{noneFits, oneFits, manyFit, shapeFits, lastFits, stageFits, takenOff, entered}
 use Rattle.matcher.specs.Matcher.{matcherFits, fresh}
-use Rattle.matcher.specs.Stroke.{promotedUnder, tried, visited, descended, walkedFrom, strokeAnswer, afterStroke}
+use Rattle.walk.specs.Walk.{promotedUnder, tried, visited, descended, walkedFrom}
+use Rattle.matcher.specs.Stroke.{strokeAnswer, afterStroke}
 use Rattle.edge_cases.specs.EdgeCases.{Case, struckRing, sameBytes, cases}
 
 -- one test over the list: in each case got is want

@@ -10,8 +10,8 @@ use Rattle.ladder.specs.Prefix.{levels}
 use Rattle.ladder.specs.Ladder.{testsOf, answerAt}
 use Rattle.signature.specs.Signature.{signatureOf}
 use Rattle.signature.specs.Calls.{beginRefusal}
-use Rattle.matcher.specs.declared.Ring.{Ring}
-use Rattle.matcher.specs.declared.Ring.the-variants.{Silent, At}
+use Rattle.walk.specs.declared.Ring.{Ring}
+use Rattle.walk.specs.declared.Ring.the-variants.{Silent, At}
 use Rattle.matcher.specs.declared.Matcher.{Matcher}
 use Rattle.matcher.specs.Matcher.{fresh}
 use Rattle.matcher.specs.Stroke.{strokeAnswer, afterStroke}

@@ -5,10 +5,10 @@ use checkpoint_restore::restore;
 use checkpoint_save::save;
 use fingerprint::Key;
 use matcher::Matcher;
-use matcher::Ring;
 use rack::CARDS;
 use rack::Rack;
 use rack::Reports;
+use walk::Ring;
 
 // A ring at byte t.
 fn say(t: u64, ring: Ring) {

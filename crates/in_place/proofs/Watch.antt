@@ -16,8 +16,8 @@ use Rattle.refusal.proofs.Verdict.Laws as verdict′
 use Rattle.matcher.specs.Stroke.{strokeRefusal, strokeAnswer, afterStroke}
 use Rattle.matcher.specs.declared.Matcher.{Matcher}
 use Rattle.matcher.specs.declared.Stroke.{Stroke}
-use Rattle.matcher.proofs.Answer as answer
-use Rattle.matcher.proofs.Answer.Laws as answer′
+use Rattle.walk.proofs.Answer as answer
+use Rattle.walk.proofs.Answer.Laws as answer′
 use Rattle.matcher.proofs.Matcher as watch
 use Rattle.matcher.proofs.Matcher.Laws as watch′
 use Rattle.matcher.proofs.Stroke as result

@@ -2,10 +2,10 @@
 ghost use mathlib.Core.Path.{_≡_};
 ghost use Rattle.refusal.specs.Number.{number};
 ghost use Rattle.matcher.specs.Stroke.{strokeRefusal, strokeAnswer, afterStroke};
-use matcher::Answer;
 use matcher::Matcher;
 use matcher::Stroke;
 use refusal::Verdict;
+use walk::Answer;
 
 // What the thin entry answers: the verdict and the answer; the watch is altered where it lies.
 pub struct Reply {

@@ -1,51 +1,16 @@
 -- No answer counts more comparisons than one more than the stages of the watch, whatever watch and byte.
 -- Assumes nothing.
-use Prim.Native.Nat.{ℕ, zero, suc, _+_, _≤_}
-use mathlib.Core.Path.{_≡_}
+use Prim.Native.Nat.{ℕ, suc, _≤_}
 use native.Mathlib.Omega.{arith}
 use lib.Dec.{eqb}
 use Rattle.ladder.specs.Prefix.{levels}
-use Rattle.stage.specs.declared.Mark.{Mark}
-use Rattle.stage.specs.Stage.{setsAside}
-use Rattle.stage.specs.Stages.{stageAt}
-use Rattle.matcher.specs.declared.Matcher.{Matcher}
-use Rattle.matcher.specs.Stroke.{noAnswer, nextMark, promoted, promotedUnder, matches, tried, ripe, visited, descended, walkedFrom, walked, strokeRefusal, strokeAnswer}
-use Rattle.matcher.specs.declared.Walk.{Walk}
-use Rattle.matcher.specs.declared.Round.{Round}
 use Rattle.lists.proofs.Cases.{by-test}
-
-module _ (c : Round) where
-  promoted-count : (i : ℕ) (start : Mark) (w : Walk) → promoted c i start w .answer .comparisons ≡ w .answer .comparisons
-  unfolding promotedUnder
-  promoted-count i start w =
-      by-test (eqb i (levels (c .signature .length))) (λ e. rw (e, promoted)) (λ e. rw (e, promoted)
-      (by-test (setsAside (c .signature .key) (stageAt (w .stages) i) start) (λ f. rw f) (λ f. rw f)))
-
-  tried-count : (i : ℕ) (start : Mark) (w : Walk) → tried c i start w .answer .comparisons ≡ suc (w .answer .comparisons)
-  unfolding tried
-  tried-count i start w =
-      by-test (matches c i start) (λ e. rw (e, tried) (promoted-count i start _)) (λ e. rw (e, tried))
-
-  visited-count : (i : ℕ) (w : Walk) → visited c i w .answer .comparisons ≤ suc (w .answer .comparisons)
-  unfolding visited
-  visited-count i w =
-      by-test (ripe c i (stageAt (w .stages) i)) (λ e. rw (e, visited, tried-count) (omega arith))
-      (λ e. rw (e, visited) (omega arith))
-
-  descended-count : (i : ℕ) (w : Walk) → descended c i w .answer .comparisons ≤ i + w .answer .comparisons
-  unfolding descended
-  descended-count zero w = omega arith
-  descended-count (suc i) w = omega (arith, descended-count i (visited c i w), visited-count i w)
-
-walked-count : (w : Matcher) (b : ℕ) → walked w b .answer .comparisons ≤ suc (levels (w .signature .length))
-unfolding walkedFrom
-walked-count w b =
-    let c : Round = record { signature = w .signature; now = nextMark (w .signature .key) (w .now) b } in
-    rw tried-count
-    (omega (arith, descended-count c (levels (w .signature .length)) (record { stages = w .stages; answer = noAnswer })))
+use Rattle.walk.proofs.Count.{walked-count}
+use Rattle.matcher.specs.declared.Matcher.{Matcher}
+use Rattle.matcher.specs.Stroke.{strokeRefusal, strokeAnswer}
 
 pub ceiling : (w : Matcher) (b : ℕ) → strokeAnswer w b .comparisons ≤ suc (levels (w .signature .length))
 unfolding strokeAnswer
 ceiling w b =
-    by-test (eqb (strokeRefusal w) 0) (λ e. rw (e, strokeAnswer) (walked-count w b))
+    by-test (eqb (strokeRefusal w) 0) (λ e. rw (e, strokeAnswer) (walked-count _ (w .now) (w .stages)))
     (λ e. rw (e, strokeAnswer) (omega arith))

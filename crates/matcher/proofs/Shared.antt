@@ -19,11 +19,12 @@ use Rattle.refusal.specs.Number.{number}
 use Rattle.signature.specs.Signature.{maxLength}
 use Rattle.stage.specs.Stage.{maxTaken}
 use Rattle.stage.specs.Stages.{stageCount, Stages, stageAt, allFrom}
+use Rattle.walk.specs.Walk.{noAnswer, compared}
+use Rattle.walk.specs.Quiet.{isFirst}
 use Rattle.matcher.specs.declared.Matcher.{Matcher}
 use Rattle.matcher.specs.declared.Turn.{Turn}
 use Rattle.matcher.specs.Matcher.{matcherFits}
-use Rattle.matcher.specs.Stroke.{noAnswer, compared, walked, strokeRefusal, strokeAnswer, afterStroke}
-use Rattle.matcher.specs.Skip.{isFirst}
+use Rattle.matcher.specs.Stroke.{walked, strokeRefusal, strokeAnswer, afterStroke}
 use Rattle.matcher.specs.Shared.{sharedFits, sharedRefusal, sharedAnswer, sharedStages}
 use Rattle.matcher.proofs.Sound.{after-taken, answer-taken}
 use Rattle.matcher.proofs.Quiet.{Calm, quiet-answer, quiet-after}

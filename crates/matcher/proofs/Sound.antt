@@ -17,9 +17,10 @@ use Rattle.stage.specs.Stages.{stageCount, stageAt, stagesFit, shapesFit}
 use Rattle.stage.proofs.Fit.{Fit, fits-of}
 use Rattle.stage.proofs.Follows.{Follows, shape-of, last-of, stage-fits}
 use Rattle.stage.proofs.Now.{SoundNow, sound-now, now-fits}
+use Rattle.walk.specs.Walk.{nextMark}
 use Rattle.matcher.specs.declared.Matcher.{Matcher}
 use Rattle.matcher.specs.Matcher.{matcherFits, shapely, moved}
-use Rattle.matcher.specs.Stroke.{nextMark, walked, strokeRefusal, strokeAnswer, afterStroke}
+use Rattle.matcher.specs.Stroke.{walked, strokeRefusal, strokeAnswer, afterStroke}
 
 -- What a watch that is no misfit says of itself.
 pub record Sound (w : Matcher) : Type 0 where

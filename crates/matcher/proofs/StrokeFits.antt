@@ -1,189 +1,30 @@
 -- A watch that is no misfit is none after a byte that it takes, whatever the byte.
 -- Assumes nothing.
-use Prim.Native.Nat.{ℕ, zero, suc, _+_, _≤_, _<_}
-use mathlib.Core.Path.{_≡_, refl, sym, _∙_}
-use mathlib.Core.Logic.{inl, inr}
-use mathlib.Core.Bool.{true, false, not, true≢false}
-use native.Mathlib.Decide.{ℕ-discrete}
+use Prim.Native.Nat.{ℕ}
+use mathlib.Core.Path.{_≡_, refl}
+use mathlib.Core.Bool.{true}
 use native.Mathlib.Omega.{arith}
-use lib.Dec.{eqb}
-use borrow.Author.Tests.{eqb-true, eqb-false, not-true, eq-eqb, ne-eqb}
-use Rattle.fingerprint.specs.Fingerprint.{Below}
 use Rattle.fingerprint.proofs.Laws.{pushed-below}
-use Rattle.ladder.specs.Prefix.{levels, prefixLength}
-use Rattle.ladder.proofs.Levels.{first-length, levels-bound}
-use Rattle.lists.proofs.Laws.{and-left, and-right}
-use Rattle.lists.proofs.Cases.{by-test}
-use Rattle.stage.specs.declared.Mark.{Mark}
-use Rattle.stage.specs.declared.Stage.{Stage}
-use Rattle.stage.specs.Stage.{noStage, takenOff}
-use Rattle.stage.specs.Stages.{stageCount, Stages, stageAt, withStage}
-use Rattle.stage.proofs.Fit.{Fit, idle, fit-past, fit-print}
-use Rattle.stage.proofs.Keeps.{fit-later, fit-unripe, fit-off, fit-entered}
-use Rattle.stage.proofs.Stages.{stage-with, stage-with-other}
+use Rattle.walk.specs.declared.Round.{Round}
+use Rattle.walk.specs.Walk.{nextMark}
+use Rattle.walk.proofs.Midway.{walked-fit}
+use Rattle.walk.proofs.WalkFollows.{walked-follows}
 use Rattle.matcher.specs.declared.Matcher.{Matcher}
-use Rattle.matcher.specs.declared.Walk.{Walk}
-use Rattle.matcher.specs.declared.Round.{Round}
 use Rattle.matcher.specs.Matcher.{matcherFits}
-use Rattle.matcher.specs.Stroke.{nextMark, noAnswer, tried, ripe, visited, descended, walkedFrom, walked, strokeRefusal, afterStroke}
-use Rattle.matcher.proofs.Visits.{tried-stages}
-use Rattle.matcher.proofs.WalkFollows.{walked-follows}
+use Rattle.matcher.specs.Stroke.{strokeRefusal, afterStroke}
 use Rattle.matcher.proofs.Sound.{Sound, sound, sound-fits, card-of, taken-fits, taken-below, after-taken}
-
--- Before stage i - 1 is visited: the stages above i are done, stage i has lost its ripe start, and those below are as before the byte.
-pub record Midway (m t i : ℕ) (l : Stages) : Type 0 where
-  pub above : (j : ℕ) → i < j → j < stageCount → Fit m j (suc t) (suc t) (stageAt l j)
-  pub here : i < stageCount → Fit m i t (suc t) (stageAt l i)
-  pub below : (j : ℕ) → j < i → j < stageCount → Fit m j t t (stageAt l j)
-
--- The stages of a watch at t, before any is visited: past k-1 nothing is listed.
-pub midway-begin :
-    (m t : ℕ) (l : Stages) → ((i : ℕ) → i < stageCount → Fit m i t t (stageAt l i)) → Midway m t (levels m) l
-midway-begin m t l fit =
-    let past : (i : ℕ) → levels m ≤ i → i < stageCount → stageAt l i ≡ noStage =
-    λ i h b. fit-past m i t t _ h (fit i b)
-    in
-    record {
-      above = λ j o b. idle (past j (omega arith) b);
-      here = λ b. idle (past _ (omega arith) b);
-      below = λ j o. fit j;
-    }
-
-module _ (c : Round) (t : ℕ) (now : c .now .at ≡ suc t) where
-  abbrev m : ℕ
-  m = c .signature .length
-
-  unripe-first :
-      (i : ℕ) (s : Stage)
-      → ripe c i s ≡ false
-      → (s .held ≡ 0 → ⊥)
-      → s .first .at + prefixLength m (suc i) ≡ suc t
-      → ⊥
-  unripe-first i s e z d = true≢false (sym (rw (ne-eqb (s .held) 0 z) (eq-eqb _ _ (d ∙ sym now))) ∙ e)
-
-  tried-other : (i j : ℕ) (start : Mark) (w : Walk) → (j ≡ i → ⊥) → stageAt (tried c i start w .stages) j ≡ stageAt (w .stages) j
-  tried-other i j start w n =
-      elim (tried-stages c i start w) [
-        | inl e ↦ rw e
-        | inr e ↦ rw (e .1) (stage-with-other (w .stages) i _ j n)
-      ]
-
-  tried-here :
-      (i : ℕ) (start : Mark) (w : Walk)
-      → i ≤ levels m
-      → start .at + prefixLength m i ≡ suc t
-      → Below (start .print)
-      → Fit m i t (suc t) (stageAt (w .stages) i)
-      → Fit m i (suc t) (suc t) (stageAt (tried c i start w .stages) i)
-  tried-here i start w l due print q =
-      elim (tried-stages c i start w) [
-        | inl e ↦ rw e (fit-later m i t _ q)
-        | inr e ↦
-            rw (e .1)
-            (stage-with (w .stages) i _ (Fit m i (suc t) (suc t)) (idle refl)
-            (fit-entered m i t _ (c .signature .key) start (omega (arith, e .0)) due print q))
-      ]
-
-  module _ (i : ℕ) (w : Walk) (l : i < levels m) (small : i < stageCount) (q : Midway m t (suc i) (w .stages)) where
-    -- stage i is not ripe
-    not-ripe : ripe c i (stageAt (w .stages) i) ≡ false → Midway m t i (w .stages)
-    not-ripe e =
-        record {
-          above =
-              λ j o b.
-              elim (ℕ-discrete j (suc i)) [
-                | yes d ↦ rw d (fit-later m (suc i) t _ (q .here (omega arith)))
-                | no d ↦ q .above j (omega arith) b
-              ];
-          here = λ b. fit-unripe m i t _ (unripe-first i (stageAt (w .stages) i) e) (q .below i (omega arith) b);
-          below = λ j o. q .below j (omega arith);
-        }
-
-    abbrev shorter : Walk
-    shorter =
-        record {
-          stages = withStage (w .stages) i (takenOff (c .signature .key) (stageAt (w .stages) i));
-          answer = w .answer;
-        }
-
-    shorter-other : (j : ℕ) → (j ≡ i → ⊥) → stageAt (shorter .stages) j ≡ stageAt (w .stages) j
-    shorter-other j n = stage-with-other (w .stages) i _ j n
-
-    -- the first start of stage i is ripe
-    first-ripe : ripe c i (stageAt (w .stages) i) ≡ true → Midway m t i (tried c (suc i) (stageAt (w .stages) i .first) shorter .stages)
-    first-ripe e =
-        let s : Stage = stageAt (w .stages) i in
-        let f : Fit m i t t s = q .below i (omega arith) small in
-        let listed : s .held ≡ 0 → ⊥ = eqb-false _ _ (not-true _ (and-left _ _ e)) in
-        let due : s .first .at + prefixLength m (suc i) ≡ suc t = eqb-true _ _ (and-right (not (eqb (s .held) 0)) _ e) ∙ now in
-        record {
-          above =
-              λ j o b.
-              elim (ℕ-discrete j (suc i)) [
-                | yes d ↦
-                    rw d
-                    (tried-here (suc i) (s .first) shorter l due (fit-print m i t t s f)
-                    (rw (shorter-other (suc i) (omega arith)) (q .here (omega arith))))
-                | no d ↦ rw (tried-other (suc i) j (s .first) shorter d, shorter-other j (omega arith)) (q .above j (omega arith) b)
-              ];
-          here =
-              λ b.
-              rw (tried-other (suc i) i (s .first) shorter (omega arith))
-              (stage-with (w .stages) i _ (Fit m i t (suc t)) (idle refl) (fit-off m i t s (c .signature .key) listed due f));
-          below =
-              λ j o b.
-              rw (tried-other (suc i) j (s .first) shorter (omega arith), shorter-other j (omega arith)) (q .below j (omega arith) b);
-        }
-
-    pub visited-midway : Midway m t i (visited c i w .stages)
-    unfolding visited
-    visited-midway =
-        by-test (ripe c i (stageAt (w .stages) i)) (λ e. rw (e, visited) (first-ripe e)) (λ e. rw (e, visited) (not-ripe e))
-
-  descended-midway :
-      (i : ℕ) (w : Walk) → i ≤ levels m → i ≤ stageCount → Midway m t i (w .stages) → Midway m t 0 (descended c i w .stages)
-  unfolding descended
-  descended-midway zero w l b q = q
-  descended-midway (suc i) w l b q = descended-midway i (visited c i w) (omega arith) (omega arith) (visited-midway i w l b q)
-
-module _ (w : Matcher) (b : ℕ) (q : Sound w) where
-  abbrev size : ℕ
-  size = w .signature .length
-
-  abbrev t : ℕ
-  t = w .now .at
-
-  abbrev round : Round
-  round = record { signature = w .signature; now = nextMark (w .signature .key) (w .now) b }
-
-  abbrev start : Walk
-  start = record { stages = w .stages; answer = noAnswer }
-
-  walked-fit : (i : ℕ) → i < stageCount → Fit size i (suc t) (suc t) (stageAt (walked w b .stages) i)
-  unfolding walkedFrom
-  walked-fit i l =
-      let card = card-of q in
-      let v : Walk = descended round (levels size) start in
-      let r : Midway size t 0 (v .stages) =
-      descended-midway round t refl (levels size) start (omega arith) (levels-bound size (card .short)) (midway-begin size t (w .stages) (q .stage))
-      in
-      elim (ℕ-discrete i 0) [
-        | yes e ↦
-            rw e
-            (tried-here round t refl 0 (w .now) v (omega arith) (omega (arith, first-length size (card .long))) (q .print)
-            (r .here (omega arith)))
-        | no e ↦ rw (tried-other round t refl 0 i (w .now) v e) (r .above i (omega arith) l)
-      ]
 
 pub stroke-fits : (w : Matcher) (b : ℕ) → strokeRefusal w ≡ 0 → matcherFits (afterStroke w b) ≡ true
 stroke-fits w b e =
     let q : Sound w = sound w (taken-fits w e) in
+    let card = card-of q in
+    let round : Round = record { signature = w .signature; now = nextMark (w .signature .key) (w .now) b } in
     rw (after-taken w b e)
     (sound-fits _ (record {
       card = q .card;
       within = taken-below w e;
       print = pushed-below (w .signature .key) (w .now .print) b;
       starts = λ z. absurd (omega arith);
-      stage = walked-fit w b q;
-      follows = walked-follows w b q;
+      stage = walked-fit round (w .now) (w .stages) refl (card .long) (card .short) (q .print) (q .stage);
+      follows = walked-follows round (w .now) (w .stages) (card .short) (q .print) (q .follows);
     }))

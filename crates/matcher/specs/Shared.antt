@@ -6,10 +6,11 @@ use Rattle.fingerprint.specs.declared.Key.{Key}
 use Rattle.fingerprint.specs.Fingerprint.{sameKey}
 use Rattle.stage.specs.Stage.{maxTaken}
 use Rattle.stage.specs.Stages.{Stages, allFrom}
+use Rattle.walk.specs.declared.Answer.{Answer}
+use Rattle.walk.specs.Walk.{noAnswer}
 use Rattle.matcher.specs.declared.Matcher.{Matcher}
-use Rattle.matcher.specs.declared.Answer.{Answer}
 use Rattle.matcher.specs.Matcher.{matcherFits}
-use Rattle.matcher.specs.Stroke.{noAnswer, strokeAnswer, afterStroke}
+use Rattle.matcher.specs.Stroke.{strokeAnswer, afterStroke}
 
 -- "A card with another key is a misfit, as is .. c above t, a start below c": among others that share the key, since the count c.
 abbrev pub sharedFits : Key → ℕ → Matcher → Bool

@@ -14,7 +14,8 @@ use Rattle.matcher.specs.declared.Matcher.{Matcher}
 use Rattle.stage.specs.Stage.{maxTaken, origin, nowFits}
 use Rattle.stage.specs.Stages.{noStages, stagesFit}
 pub use Rattle.stage.specs.Stages.{listedFrom, allFrom}
-use Rattle.matcher.specs.Stroke.{nextMark, strokeAnswer, afterStroke}
+use Rattle.walk.specs.Walk.{nextMark}
+use Rattle.matcher.specs.Stroke.{strokeAnswer, afterStroke}
 pub use Rattle.rack_names.specs.Names.{rackPlaces, nameCount}
 use Rattle.rack_place.specs.declared.Place.{Place}
 pub use Rattle.rack_place.specs.Place.{noPlace, nowhere, isFree, hasName, placeOf, freePlace}

@@ -2,9 +2,9 @@
 use Prim.Native.Nat.{ℕ, _+_, _-_}
 use mathlib.Core.List.{List, [], _∷_, _++_}
 use lib.ListN.{length, replicate}
-use Rattle.matcher.specs.declared.Ring.{Ring}
-use Rattle.matcher.specs.declared.Ring.the-variants.{Silent, At}
-use Rattle.matcher.specs.Stroke.{noAnswer}
+use Rattle.walk.specs.declared.Ring.{Ring}
+use Rattle.walk.specs.declared.Ring.the-variants.{Silent, At}
+use Rattle.walk.specs.Walk.{noAnswer}
 use Rattle.rack_names.specs.Names.{rackPlaces}
 use Rattle.rack_report.specs.declared.Report.{Report}
 use Rattle.rack_report.specs.declared.Reports.{Reports}

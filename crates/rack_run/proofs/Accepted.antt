@@ -14,7 +14,7 @@ use Rattle.signature.specs.declared.Signature.{Signature}
 use Rattle.signature.specs.Signature.{signatureFits}
 use Rattle.stage.specs.Stage.{maxTaken}
 use Rattle.stage.specs.Stages.{noStages}
-use Rattle.matcher.specs.Stroke.{nextMark}
+use Rattle.walk.specs.Walk.{nextMark}
 use Rattle.rack_place.specs.declared.Place.{Place}
 use Rattle.rack.specs.declared.Rack.{Rack}
 use Rattle.rack.specs.Rack.{

@@ -17,9 +17,10 @@ use Rattle.lists.specs.Lists.{Bytes}
 use Rattle.lists.proofs.Cases.{by-test}
 use Rattle.signature.specs.declared.Signature.{Signature}
 use Rattle.matcher.specs.declared.Matcher.{Matcher}
-use Rattle.matcher.specs.declared.Answer.{Answer}
+use Rattle.walk.specs.declared.Answer.{Answer}
 use Rattle.matcher.specs.Matcher.{fresh}
-use Rattle.matcher.specs.Stroke.{noAnswer, strokeAnswer, afterStroke}
+use Rattle.walk.specs.Walk.{noAnswer}
+use Rattle.matcher.specs.Stroke.{strokeAnswer, afterStroke}
 use Rattle.refinement.specs.Refinement.{passageTests, readAnswer}
 use Rattle.raising.specs.Raised.{raisedAnswer}
 use Rattle.rack.specs.Rack.{nameCount, rackStrokeRefusal, noReports}

@@ -17,9 +17,10 @@ use Rattle.stage.specs.Stage.{sameGap, gapTo, takenOff, entered}
 use Rattle.stage.specs.Stages.{stageCount, Stages, stageAt, withStage, noStages}
 use Rattle.stage.proofs.Stages.{stage-with, stage-with-other, no-stage-at}
 use Rattle.matcher.specs.declared.Matcher.{Matcher}
-use Rattle.matcher.specs.declared.Round.{Round}
-use Rattle.matcher.specs.declared.Walk.{Walk}
-use Rattle.matcher.specs.Stroke.{noAnswer, nextMark, promotedUnder, matches, tried, ripe, visited, descended, walkedFrom, walked}
+use Rattle.walk.specs.declared.Round.{Round}
+use Rattle.walk.specs.declared.Walk.{Walk}
+use Rattle.walk.specs.Walk.{noAnswer, nextMark, promotedUnder, matches, tried, ripe, visited, descended, walkedFrom}
+use Rattle.matcher.specs.Stroke.{walked}
 use Rattle.rack.specs.Rack.{listedFrom, allFrom}
 
 -- Each start that a stage lists is c or later: first and last tell.

@@ -8,7 +8,7 @@ use lib.ListN.{length, drop, length-append, length-map}
 use lib.Seq.{drop-length, drop-append-le}
 use Rattle.signature.specs.declared.Signature.{Signature}
 use Rattle.matcher.specs.declared.Matcher.{Matcher}
-use Rattle.matcher.specs.declared.Answer.{Answer}
+use Rattle.walk.specs.declared.Answer.{Answer}
 use Rattle.matcher.specs.Matcher.{fresh}
 use Rattle.matcher.specs.Stroke.{strokeRefusal}
 use Rattle.raising.specs.Raised.{raisedAnswer}

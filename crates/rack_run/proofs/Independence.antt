@@ -15,7 +15,7 @@ use Rattle.lists.proofs.Cases.{by-test}
 use Rattle.signature.specs.declared.Signature.{Signature}
 use Rattle.signature.specs.Signature.{signatureFits}
 use Rattle.stage.specs.Stage.{maxTaken}
-use Rattle.matcher.specs.declared.Answer.{Answer}
+use Rattle.walk.specs.declared.Answer.{Answer}
 use Rattle.rack.specs.Rack.{nameCount}
 use Rattle.rack_run.specs.Calls.{Call, put-in, take-out, stroke, Possible, AllPossible, Standing, refusalOf, after, begun, ran, under}
 use Rattle.rack_run.specs.Ledger.{Tenant, Ledger, emptyLedger, given, full, refusalDue, entered, noted, ledger}

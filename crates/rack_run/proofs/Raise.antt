@@ -16,9 +16,9 @@ use Rattle.ladder.specs.Prefix.{block}
 use Rattle.ladder.specs.Ladder as ladder
 use Rattle.ladder.specs.Claim.{Occurrence, startsFrom, startsOf, times, Rings, SetsAside, Collision, Claim}
 use Rattle.stage.specs.declared.Progression.{Progression}
-use Rattle.matcher.specs.declared.Answer.{Answer}
-use Rattle.matcher.specs.declared.Ring.{Ring}
-use Rattle.matcher.specs.declared.Ring.the-variants.{Silent, At}
+use Rattle.walk.specs.declared.Answer.{Answer}
+use Rattle.walk.specs.declared.Ring.{Ring}
+use Rattle.walk.specs.declared.Ring.the-variants.{Silent, At}
 use Rattle.raising.specs.Raised.{raisedRing, raisedSet, raisedAnswer}
 use Rattle.refinement.specs.Refinement.{readRing, readSet, readAnswer}
 use Rattle.rack_run.specs.Names.{upSet, up, ClaimSince}

@@ -11,7 +11,7 @@ use lib.Seq.{take-append-seam}
 use borrow.Author.Tests.{eq-eqb, ne-eqb}
 use Rattle.lists.specs.Lists.{chosen}
 use Rattle.lists.proofs.Cases.{by-test}
-use Rattle.matcher.specs.declared.Answer.{Answer}
+use Rattle.walk.specs.declared.Answer.{Answer}
 use Rattle.rack_report.specs.declared.Report.{Report}
 use Rattle.rack.specs.Rack.{handedOut, filled}
 use Rattle.rack_run.specs.Calls.{under}

@@ -16,7 +16,8 @@ use Rattle.stage.specs.Stage.{maxTaken}
 use Rattle.stage.specs.Stages.{noStages}
 use Rattle.matcher.specs.declared.Matcher.{Matcher}
 use Rattle.matcher.specs.Matcher.{matcherFits, blank, fresh}
-use Rattle.matcher.specs.Stroke.{nextMark, strokeRefusal, strokeAnswer, afterStroke}
+use Rattle.walk.specs.Walk.{nextMark}
+use Rattle.matcher.specs.Stroke.{strokeRefusal, strokeAnswer, afterStroke}
 use Rattle.matcher.proofs.Sound.{after-taken}
 use Rattle.matcher.proofs.FreshFits.{fresh-fits}
 use Rattle.matcher.proofs.StrokeFits.{stroke-fits}

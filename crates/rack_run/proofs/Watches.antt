@@ -13,7 +13,8 @@ use Rattle.stage.specs.Stages.{stageCount, stagesFit}
 use Rattle.stage.proofs.Follows.{shape-of, last-of}
 use Rattle.matcher.specs.declared.Matcher.{Matcher}
 use Rattle.matcher.specs.Matcher.{matcherFits, moved}
-use Rattle.matcher.specs.Stroke.{nextMark, walked, strokeRefusal}
+use Rattle.walk.specs.Walk.{nextMark}
+use Rattle.matcher.specs.Stroke.{walked, strokeRefusal}
 use Rattle.matcher.proofs.Sound.{sound, sound-fits, stages-fit, after-taken}
 use Rattle.matcher.proofs.StrokeFits.{stroke-fits}
 use Rattle.rack_place.specs.declared.Place.{Place}

@@ -7,7 +7,7 @@ use lib.Dec.{eqb}
 use lib.ListN.{take}
 use Rattle.fingerprint.specs.declared.Key.{Key}
 use Rattle.signature.specs.declared.Signature.{Signature}
-use Rattle.matcher.specs.declared.Answer.{Answer}
+use Rattle.walk.specs.declared.Answer.{Answer}
 use Rattle.rack.specs.declared.Rack.{Rack}
 use Rattle.rack_report.specs.declared.Report.{Report}
 use Rattle.rack_report.specs.declared.Reports.{Reports}

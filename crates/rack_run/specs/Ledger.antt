@@ -14,9 +14,10 @@ use Rattle.signature.specs.declared.Signature.{Signature}
 use Rattle.signature.specs.Signature.{signatureFits}
 use Rattle.stage.specs.Stage.{maxTaken}
 use Rattle.matcher.specs.declared.Matcher.{Matcher}
-use Rattle.matcher.specs.declared.Answer.{Answer}
+use Rattle.walk.specs.declared.Answer.{Answer}
 use Rattle.matcher.specs.Matcher.{fresh}
-use Rattle.matcher.specs.Stroke.{noAnswer, strokeRefusal, strokeAnswer, afterStroke}
+use Rattle.walk.specs.Walk.{noAnswer}
+use Rattle.matcher.specs.Stroke.{strokeRefusal, strokeAnswer, afterStroke}
 use Rattle.raising.specs.Raised.{raisedAnswer}
 use Rattle.rack_report.specs.declared.Report.{Report}
 use Rattle.rack_report.specs.declared.Reports.{Reports}

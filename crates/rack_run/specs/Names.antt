@@ -12,8 +12,8 @@ use Rattle.fingerprint.specs.declared.Key.{Key}
 use Rattle.ladder.specs.Prefix.{levels}
 use Rattle.ladder.specs.Ladder as ladder
 use Rattle.ladder.specs.Claim.{Occurrence, Rings, SetsAside, startsOf, times, Collision}
-use Rattle.matcher.specs.declared.Answer.{Answer}
-use Rattle.matcher.specs.Stroke.{noAnswer}
+use Rattle.walk.specs.declared.Answer.{Answer}
+use Rattle.walk.specs.Walk.{noAnswer}
 use Rattle.refinement.specs.Refinement.{readAnswer}
 use Rattle.rack.specs.Rack.{noReports, rackReports}
 use Rattle.rack_run.specs.Calls.{Call, put-in, take-out, stroke, Taken, Standing, refusalOf, after, under, saidUnder}

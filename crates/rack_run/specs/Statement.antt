@@ -7,7 +7,7 @@ use mathlib.Core.List.{List, [], _∷_, map}
 use mathlib.Core.Option.{Option, none, some}
 use lib.ListN.{length, take, drop}
 use Rattle.fingerprint.specs.declared.Key.{Key}
-use Rattle.matcher.specs.declared.Answer.{Answer}
+use Rattle.walk.specs.declared.Answer.{Answer}
 use Rattle.matcher.specs.Matcher.{fresh}
 use Rattle.raising.specs.Raised.{raisedAnswer}
 use Rattle.rack.specs.Rack.{nameCount, rackFits, rackReports}

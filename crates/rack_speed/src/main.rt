@@ -4,11 +4,11 @@
 use card_record::read_signature;
 use fingerprint::Key;
 use matcher::Matcher;
-use matcher::Ring;
 use rack::Rack;
 use rack::Reports;
 use refusal::Verdict;
 use signature::Signature;
+use walk::Ring;
 
 // As many cards as a rack holds.
 const CARDS: usize = 16;

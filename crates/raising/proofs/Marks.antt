@@ -9,7 +9,7 @@ use Rattle.fingerprint.proofs.Behind.{rest-behind, joined-behind, pushed-behind
 use Rattle.stage.specs.declared.Mark.{Mark}
 use Rattle.stage.specs.declared.Gap.{Gap}
 use Rattle.stage.specs.Stage.{gapTo, forward}
-use Rattle.matcher.specs.Stroke.{nextMark}
+use Rattle.walk.specs.Walk.{nextMark}
 use Rattle.raising.specs.Raised.{raisedMark}
 
 -- a mark and a gap are their fields

@@ -17,15 +17,16 @@ use Rattle.signature.specs.declared.Signature.{Signature}
 use Rattle.stage.specs.declared.Mark.{Mark}
 use Rattle.stage.specs.declared.Stage.{Stage}
 use Rattle.matcher.specs.declared.Matcher.{Matcher}
-use Rattle.matcher.specs.declared.Round.{Round}
+use Rattle.walk.specs.declared.Round.{Round}
 use Rattle.stage.specs.Stage.{maxTaken}
 use Rattle.stage.specs.Stages.{stageAt, noStages}
 use Rattle.matcher.specs.Matcher.{matcherFits, blank}
-use Rattle.matcher.specs.Stroke.{nextMark, walked, strokeRefusal, strokeAnswer, afterStroke}
+use Rattle.walk.specs.Walk.{nextMark}
+use Rattle.matcher.specs.Stroke.{walked, strokeRefusal, strokeAnswer, afterStroke}
 use Rattle.stage.proofs.Fit.{Fit, idle, single, several}
 use Rattle.stage.proofs.Follows.{Follows, follows-alone}
 use Rattle.matcher.proofs.Sound.{Sound, sound, sound-fits, card-of, after-taken}
-use Rattle.matcher.proofs.StrokeFits.{midway-begin}
+use Rattle.walk.proofs.Midway.{midway-begin}
 use Rattle.raising.specs.Raised.{raisedMark, raisedStage, raisedWatch, raisedAnswer}
 use Rattle.raising.proofs.Marks.{next-raised}
 use Rattle.raising.proofs.Stages.{raised-none, raised-some}

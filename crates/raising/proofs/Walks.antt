@@ -20,17 +20,17 @@ use Rattle.lists.proofs.Cases.{by-test}
 use Rattle.stage.specs.declared.Mark.{Mark}
 use Rattle.stage.specs.declared.Gap.{Gap}
 use Rattle.stage.specs.declared.Stage.{Stage}
-use Rattle.matcher.specs.declared.Answer.{Answer}
+use Rattle.walk.specs.declared.Answer.{Answer}
 use Rattle.stage.specs.declared.Progression.{Progression}
-use Rattle.matcher.specs.declared.Round.{Round}
-use Rattle.matcher.specs.declared.Walk.{Walk}
+use Rattle.walk.specs.declared.Round.{Round}
+use Rattle.walk.specs.declared.Walk.{Walk}
 use Rattle.stage.specs.Stage.{noStage, takenOff, entered, setsAside, allButLast}
 use Rattle.stage.specs.Stages.{stageCount, stageAt, withStage}
-use Rattle.matcher.specs.Stroke.{noAnswer, ringing, withSet, compared}
-use Rattle.matcher.specs.Stroke.{promotedUnder, matches, tried, ripe, visited, descended, walkedFrom}
+use Rattle.walk.specs.Walk.{noAnswer, ringing, withSet, compared}
+use Rattle.walk.specs.Walk.{promotedUnder, matches, tried, ripe, visited, descended, walkedFrom}
 use Rattle.stage.proofs.Fit.{Fit, idle, single, several}
-use Rattle.matcher.proofs.Visits.{Grows, visited-grows}
-use Rattle.matcher.proofs.StrokeFits.{Midway, visited-midway}
+use Rattle.walk.proofs.Visits.{Grows, visited-grows}
+use Rattle.walk.proofs.Midway.{Midway, visited-midway}
 use Rattle.raising.specs.Raised.{raisedMark, raisedStage, raisedRing, raisedSet, raisedAnswer}
 use Rattle.raising.proofs.Marks.{gap-raised}
 use Rattle.raising.proofs.Stages.{raised-none, raised-some, taken-raised, entered-raised, sets-raised, aside-raised, ripe-raised}

@@ -10,9 +10,9 @@ use Rattle.fingerprint.specs.Fingerprint.{joined}
 use Rattle.stage.specs.declared.Mark.{Mark}
 use Rattle.stage.specs.declared.Stage.{Stage}
 use Rattle.matcher.specs.declared.Matcher.{Matcher}
-use Rattle.matcher.specs.declared.Answer.{Answer}
-use Rattle.matcher.specs.declared.Ring.{Ring}
-use Rattle.matcher.specs.declared.Ring.the-variants.{Silent, At}
+use Rattle.walk.specs.declared.Answer.{Answer}
+use Rattle.walk.specs.declared.Ring.{Ring}
+use Rattle.walk.specs.declared.Ring.the-variants.{Silent, At}
 use Rattle.stage.specs.declared.Progression.{Progression}
 
 -- The mark behind the base and then the bytes before the mark.

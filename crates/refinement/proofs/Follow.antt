@@ -20,14 +20,14 @@ use Rattle.signature.specs.declared.Signature.{Signature}
 use Rattle.stage.specs.declared.Mark.{Mark}
 use Rattle.stage.specs.declared.Gap.{Gap}
 use Rattle.stage.specs.declared.Stage.{Stage}
-use Rattle.matcher.specs.declared.Answer.{Answer}
+use Rattle.walk.specs.declared.Answer.{Answer}
 use Rattle.stage.specs.declared.Progression.{Progression}
 use Rattle.stage.specs.Stage.{gapTo, entered, setsAside, allButLast}
 use Rattle.stage.specs.Stages.{stageCount, Whole, stageAt, withStage}
 use Rattle.stage.proofs.Stages.{stage-with-same, stage-with-other, whole-with}
-use Rattle.matcher.specs.Stroke.{withSet, compared, ringing, promoted, promotedUnder, matches, tried}
-use Rattle.matcher.specs.declared.Walk.{Walk}
-use Rattle.matcher.specs.declared.Round.{Round}
+use Rattle.walk.specs.Walk.{withSet, compared, ringing, promoted, promotedUnder, matches, tried}
+use Rattle.walk.specs.declared.Walk.{Walk}
+use Rattle.walk.specs.declared.Round.{Round}
 use Rattle.refinement.specs.Refinement.{cardTests, markIn, summary, readSet, readAnswer}
 use Rattle.lists.proofs.Cases.{by-test}
 use Rattle.refinement.proofs.Summary.{gapOf, gap-between, summary-entered, summary-aside}

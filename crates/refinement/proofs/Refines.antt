@@ -24,8 +24,9 @@ use Rattle.signature.specs.Signature.{signatureFits}
 use Rattle.stage.specs.Stage.{maxTaken}
 use Rattle.stage.specs.Stages.{stageCount, stageAt, stagesOf}
 use Rattle.stage.proofs.Stages.{stages-same, whole-of, stage-of}
-use Rattle.matcher.specs.Stroke.{nextMark, walkedFrom, walked, strokeRefusal, strokeAnswer}
-use Rattle.matcher.specs.declared.Walk.{Walk}
+use Rattle.walk.specs.Walk.{nextMark, walkedFrom}
+use Rattle.matcher.specs.Stroke.{walked, strokeRefusal, strokeAnswer}
+use Rattle.walk.specs.declared.Walk.{Walk}
 use Rattle.refinement.specs.Refinement.{cardTests, markIn, summary, watchOf, Refines}
 use Rattle.signature.proofs.Card.{SoundCard, sound-card}
 use Rattle.refinement.proofs.Summary.{by-print, mark-grown, summary-grown}

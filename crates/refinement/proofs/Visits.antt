@@ -25,8 +25,8 @@ use Rattle.ladder.proofs.Gaps.{Alike}
 use Rattle.stage.specs.Stage.{takenOff}
 use Rattle.stage.specs.Stages.{stageCount, Stages, Whole, stageAt, withStage}
 use Rattle.stage.proofs.Stages.{stage-with-same, stage-with-other, whole-with}
-use Rattle.matcher.specs.Stroke.{tried, ripe, visited, descended, noAnswer}
-use Rattle.matcher.specs.declared.Walk.{Walk}
+use Rattle.walk.specs.Walk.{tried, ripe, visited, descended, noAnswer}
+use Rattle.walk.specs.declared.Walk.{Walk}
 use Rattle.refinement.specs.Refinement.{cardTests, summary}
 use Rattle.lists.proofs.Cases.{by-test}
 use Rattle.refinement.proofs.Summary.{summary-held, summary-first, summary-off}

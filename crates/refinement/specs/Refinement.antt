@@ -12,10 +12,10 @@ use Rattle.signature.specs.declared.Signature.{Signature}
 use Rattle.stage.specs.declared.Mark.{Mark}
 use Rattle.stage.specs.declared.Stage.{Stage}
 use Rattle.matcher.specs.declared.Matcher.{Matcher}
-use Rattle.matcher.specs.declared.Ring.{Ring}
-use Rattle.matcher.specs.declared.Ring.the-variants.{Silent, At}
+use Rattle.walk.specs.declared.Ring.{Ring}
+use Rattle.walk.specs.declared.Ring.the-variants.{Silent, At}
 use Rattle.stage.specs.declared.Progression.{Progression}
-use Rattle.matcher.specs.declared.Answer.{Answer}
+use Rattle.walk.specs.declared.Answer.{Answer}
 use Rattle.stage.specs.Stages.{stagesOf}
 use Rattle.stage.specs.Stage.{noStage, alone}
 use Rattle.matcher.specs.Stroke.{strokeRefusal, strokeAnswer, afterStroke}

@@ -16,8 +16,9 @@ use Rattle.stage.specs.Stage.{maxTaken}
 use Rattle.matcher.specs.declared.Matcher.{Matcher}
 use Rattle.matcher.specs.Matcher.{matcherFits}
 use Rattle.matcher.specs.Stroke.{strokeRefusal, strokeAnswer, afterStroke}
-use Rattle.matcher.specs.Scan.{noteSize, noteRoom, roomFor, notesAt, halted, Scanned, scanned, scanOf}
-use Rattle.matcher.specs.Scan as scan
+use Rattle.notes.specs.Notes.{noteSize, noteRoom, roomFor}
+use Rattle.scanner.specs.Scan.{notesAt, halted, Scanned, scanned, scanOf}
+use Rattle.scanner.specs.Scan as scan
 use Rattle.matcher.proofs.Sound.{sound}
 use Rattle.matcher.proofs.StrokeFits.{stroke-fits}
 use Rattle.decimal.specs.Decimal.{putLimit}

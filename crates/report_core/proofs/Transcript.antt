@@ -13,7 +13,8 @@ use Rattle.stage.specs.Stage.{maxTaken}
 use Rattle.matcher.specs.declared.Matcher.{Matcher}
 use Rattle.matcher.specs.Matcher.{matcherFits}
 use Rattle.matcher.specs.Stroke.{strokeRefusal, strokeAnswer, afterStroke}
-use Rattle.matcher.specs.Scan.{noteRoom, roomFor, notesAt, Scanned, scanned}
+use Rattle.notes.specs.Notes.{noteRoom, roomFor}
+use Rattle.scanner.specs.Scan.{notesAt, Scanned, scanned}
 use Rattle.lists.proofs.Cases.{by-test}
 use Rattle.matcher.proofs.Ceiling.{ceiling}
 use Rattle.matcher.proofs.Sound.{sound, card-of, taken-below}

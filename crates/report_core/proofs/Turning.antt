@@ -11,8 +11,9 @@ use borrow.Author.Tests.{le-leb}
 use Rattle.decimal.specs.Decimal.{putLimit}
 use Rattle.refusal.specs.Number.{number}
 use Rattle.stage.specs.Stage.{maxTaken}
-use Rattle.matcher.specs.declared.Scan.{Scan}
-use Rattle.matcher.specs.Scan.{noteSize, noteRoom, Scanned, scanned, scanOf}
+use Rattle.scanner.specs.declared.Ended.{Ended}
+use Rattle.notes.specs.Notes.{noteSize, noteRoom}
+use Rattle.scanner.specs.Scan.{Scanned, scanned, scanOf}
 use Rattle.report_lines.specs.declared.Put.the-variants.{Full, Next}
 use Rattle.report_lines.specs.Sizes.{mostLine}
 use Rattle.report_lines.specs.Lines.{noteLines, hasNotesRoom, notesPlaced, notesWritten}
@@ -23,7 +24,7 @@ use Rattle.report_core.proofs.Hearing.{scan-same, Enough, Small, heard-
 use Rattle.report_core.proofs.Transcript.{Ran, ran}
 
 -- what scan promises, of the bytes from a place on and of the numbers lent to it, `lent` before the call and `left` behind it
-pub record Scans (p : Progress) (bytes : List ℕ) (from : ℕ) (lent : List ℕ) (s : Scan) (left : List ℕ) : Type 0 where
+pub record Scans (p : Progress) (bytes : List ℕ) (from : ℕ) (lent : List ℕ) (s : Ended) (left : List ℕ) : Type 0 where
   pub matcher : s .matcher ≡ scanOf (length lent) (p .matcher) (drop from bytes) .matcher
   pub noted : s .noted ≡ length (scanOf (length lent) (p .matcher) (drop from bytes) .notes)
   pub notes :
@@ -34,7 +35,7 @@ pub record Scans (p : Progress) (bytes : List ℕ) (from : ℕ) (lent : List ℕ
   pub next : s .next ≡ from + scanOf (length lent) (p .matcher) (drop from bytes) .taken
   pub verdict : number (s .verdict) ≡ scanOf (length lent) (p .matcher) (drop from bytes) .refusal
 
-module _ (p : Progress) (bytes : List ℕ) (taken used : ℕ) (out lent : List ℕ) (s : Scan) (left : List ℕ)
+module _ (p : Progress) (bytes : List ℕ) (taken used : ℕ) (out lent : List ℕ) (s : Ended) (left : List ℕ)
     (more : taken < length bytes) (low : noteRoom ≤ length lent) (enough : Enough (length out) (length lent) used 0)
     (q : Scans p bytes taken lent s left) (kept : length left ≡ length lent) where
   abbrev run : Scanned

@@ -7,7 +7,7 @@ ghost use Rattle.refusal.specs.declared.Verdict.the-variants.{Refused};
 ghost use Rattle.refusal.specs.Number.{number};
 ghost use Rattle.report_core.specs.Output.{front};
 ghost use Rattle.stage.specs.Stage.{maxTaken};
-ghost use Rattle.matcher.specs.Scan.{noteSize, noteRoom};
+ghost use Rattle.notes.specs.Notes.{noteSize, noteRoom};
 ghost use Rattle.report_lines.specs.Sizes.{mostLine};
 ghost use Rattle.report_lines.specs.Lines.{room};
 ghost use Rattle.report_core.specs.Progress.{mostComparisons, progressFits, heardWhile, roomIn, fed};
@@ -15,8 +15,8 @@ ghost use Rattle.report_core.specs.Turn.{Turns};
 ghost use Rattle.report_core.specs.Calls.{Begins, Feeds, lastLines, lastPlaced, lastWritten};
 use card_record::read_signature;
 use matcher::Matcher;
-use matcher::NOTE;
-use matcher::NOTE_ROOM;
+use notes::NOTE;
+use notes::NOTE_ROOM;
 use refusal::Refusal;
 use refusal::Verdict;
 use report_lines::MOST_LINE;
@@ -142,7 +142,7 @@ fn turn(
 {
     let cap = share(out.len() - used, notes.len());
     let w = p.matcher;
-    let scan = w.scan(bytes, taken, &mut notes[..cap]);
+    let scan = scanner::scan(w, bytes, taken, &mut notes[..cap]);
     let noted = scan.noted;
     let put = put_notes(out, used, &notes[..noted]);
     let Put::Next(end) = put else {

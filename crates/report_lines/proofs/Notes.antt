@@ -13,10 +13,10 @@ use Rattle.lists.specs.Stored.{Stored}
 use Rattle.lists.proofs.Cases.{by-test}
 use Rattle.lists.proofs.Storing.{nothing, run, at-most}
 use Rattle.stage.specs.declared.Progression.{Progression}
-use Rattle.matcher.specs.declared.Ring.{Ring}
-use Rattle.matcher.specs.declared.Ring.the-variants.{Silent, At}
-use Rattle.matcher.specs.declared.Answer.{Answer}
-use Rattle.matcher.specs.Scan.{noteSize, setNote, ringNotes, notesOf}
+use Rattle.walk.specs.declared.Ring.{Ring}
+use Rattle.walk.specs.declared.Ring.the-variants.{Silent, At}
+use Rattle.walk.specs.declared.Answer.{Answer}
+use Rattle.notes.specs.Notes.{noteSize, setNote, ringNotes, notesOf}
 use Rattle.decimal.specs.Decimal.{putLimit}
 use Rattle.report_lines.specs.declared.Put.the-variants.{Full, Next}
 use Rattle.report_lines.specs.Sizes.{mostLine}

@@ -9,10 +9,10 @@ use native.Mathlib.Omega.{arith}
 use lib.ListN.{length, take, getD, length-append, length-take, length-drop}
 use lib.Seq.{getD-take}
 use borrow.Author.Tests.{le-leb, lt-leb}
-use Rattle.matcher.specs.declared.Ring.{Ring}
-use Rattle.matcher.specs.declared.Ring.the-variants.{Silent, At}
+use Rattle.walk.specs.declared.Ring.{Ring}
+use Rattle.walk.specs.declared.Ring.the-variants.{Silent, At}
 use Rattle.stage.specs.declared.Progression.{Progression}
-use Rattle.matcher.specs.declared.Answer.{Answer}
+use Rattle.walk.specs.declared.Answer.{Answer}
 use Rattle.stage.specs.Stages.{stageCount}
 use Rattle.report_lines.specs.declared.Put.the-variants.{Next}
 use Rattle.report_lines.specs.Sizes.{mostItem, mostLine}

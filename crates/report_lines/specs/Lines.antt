@@ -5,11 +5,11 @@ use mathlib.Core.List.{List, [], _∷_, _++_, flatMap}
 use lib.ListN.{length, take, drop}
 use lib.Dec.{leb, eqb}
 use Rattle.decimal.specs.Decimal.{decimal}
-use Rattle.matcher.specs.declared.Ring.{Ring}
-use Rattle.matcher.specs.declared.Ring.the-variants.{Silent, At}
+use Rattle.walk.specs.declared.Ring.{Ring}
+use Rattle.walk.specs.declared.Ring.the-variants.{Silent, At}
 use Rattle.stage.specs.declared.Progression.{Progression}
-use Rattle.matcher.specs.declared.Answer.{Answer}
-use Rattle.matcher.specs.Scan.{noteSize}
+use Rattle.walk.specs.declared.Answer.{Answer}
+use Rattle.notes.specs.Notes.{noteSize}
 use Rattle.report_lines.specs.Sizes.{mostLine}
 use Rattle.report_lines.specs.declared.Put.{Put}
 use Rattle.report_lines.specs.declared.Put.the-variants.{Full, Next}

@@ -17,7 +17,7 @@ ghost use Rattle.report_lines.specs.Lines.{
   notesWritten,
 };
 ghost use Rattle.report_lines.specs.Sizes.{mostItem, mostNumbers, mostLine};
-use matcher::NOTE;
+use notes::NOTE;
 
 // The room that a buffer must have from the place on, whatever is to be put there: the lines of one byte are never longer.
 pub const ROOM: usize = 2048;

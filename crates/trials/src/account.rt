@@ -7,10 +7,10 @@ use crate::tally::COMPARISONS;
 use crate::tally::add;
 use crate::tally::expect;
 use crate::tally::mix;
-use matcher::Answer;
-use matcher::Ring;
 use naive_search::stages;
 use stage::Progression;
+use walk::Answer;
+use walk::Ring;
 
 // A place of the answer's list of sets: a set if it counts, else nothing.
 fn account_set(

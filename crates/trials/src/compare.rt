@@ -1,15 +1,15 @@
 // Whether two values are equal, field by field.
 use crate::cards::accepted;
 use fingerprint::Fingerprint;
-use matcher::Answer;
 use matcher::Matcher;
-use matcher::Ring;
 use matcher::Stroke;
 use signature::Signature;
 use stage::Gap;
 use stage::Mark;
 use stage::Progression;
 use stage::Stage;
+use walk::Answer;
+use walk::Ring;
 
 fn same_mark(a: Mark, b: Mark) -> bool {
     a.at == b.at && a.print.equals(b.print)

@@ -12,7 +12,8 @@ use Rattle.lists.proofs.Cases.{by-test}
 use Rattle.signature.specs.declared.Signature.{Signature}
 use Rattle.matcher.specs.declared.Matcher.{Matcher}
 use Rattle.matcher.specs.Stroke.{strokeRefusal, strokeAnswer, afterStroke}
-use Rattle.matcher.specs.Scan.{roomFor, notesAt, scanned}
+use Rattle.notes.specs.Notes.{roomFor}
+use Rattle.scanner.specs.Scan.{notesAt, scanned}
 use Rattle.matcher.proofs.Sound.{after-taken}
 use Rattle.whole_run.specs.History.{History}
 use Rattle.whole_run.specs.Run.{Call, core, stroke, Run, takes}

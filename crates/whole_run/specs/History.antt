@@ -3,8 +3,8 @@ use Prim.Native.Nat.{ℕ, zero, suc}
 use mathlib.Core.List.{List, map}
 use lib.ListN.{getD}
 use Rattle.ladder.specs.Ladder as ladder
-use Rattle.matcher.specs.declared.Answer.{Answer}
-use Rattle.matcher.specs.Stroke.{noAnswer}
+use Rattle.walk.specs.declared.Answer.{Answer}
+use Rattle.walk.specs.Walk.{noAnswer}
 use Rattle.refinement.specs.Refinement.{readAnswer}
 
 -- A byte taken, with the answer given at it.

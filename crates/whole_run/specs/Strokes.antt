@@ -3,7 +3,7 @@ use Prim.Native.Nat.{ℕ, suc, _+_}
 use mathlib.Core.List.{List, [], _∷_, _++_}
 use Rattle.matcher.specs.declared.Matcher.{Matcher}
 use Rattle.matcher.specs.Stroke.{strokeAnswer, afterStroke}
-use Rattle.matcher.specs.Scan.{notesOf}
+use Rattle.notes.specs.Notes.{notesOf}
 use Rattle.whole_run.specs.History.{History}
 use Rattle.whole_run.specs.Run.{core, Call, stroke}
 

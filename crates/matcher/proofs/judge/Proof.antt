@@ -16,8 +16,8 @@ use Rattle.powers.specs.declared.Powers.{Powers}
 use Rattle.powers.specs.Powers.{powersOf}
 use Rattle.stage.specs.Stage.{lastFits, stageFits}
 use Rattle.stage.specs.Stages.{stageCount, Stages, stageAt, shapeAt, fitsAt, stagesFit, listedFrom}
-use Rattle.matcher.specs.Skip.{Unripe}
-use Rattle.matcher.proofs.Quiet.{unripe-more}
+use Rattle.walk.specs.Quiet.{Unripe}
+use Rattle.walk.proofs.Quiet.{unripe-more}
 use Rattle.matcher.proofs.judge.Statement.{statement}
 use Rattle.matcher.proofs.judge.Tie as tie
 

@@ -7,7 +7,7 @@ use native.Mathlib.Omega.{arith}
 use lib.ListN.{length, take, drop, length-append}
 use lib.Seq.{length-take-le}
 use Rattle.stage.specs.Stage.{maxTaken}
-use Rattle.matcher.specs.Scan.{noteRoom}
+use Rattle.notes.specs.Notes.{noteRoom}
 use Rattle.report_core.specs.Progress.{mostComparisons}
 use Rattle.report_core.proofs.Hearing.{Enough}
 use Rattle.report_core.proofs.Turning.{Scans, noted-within, noted-are, noted-small, never-full, turn-limit, turn-total, turns}

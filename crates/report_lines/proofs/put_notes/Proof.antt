@@ -6,7 +6,7 @@ use borrow.Author.Needs.{needs}
 use borrow.Author.Tests.{leb-true, leb-false, not-true, not-false}
 use lib.ListN.{length}
 use Rattle.lists.proofs.Storing.{same-size}
-use Rattle.matcher.specs.Scan.{noteSize}
+use Rattle.notes.specs.Notes.{noteSize}
 use Rattle.report_lines.specs.Sizes.{mostLine}
 use Rattle.report_lines.proofs.Notes.{Putting, put-none, put-more, put-all, put-nothing}
 use Rattle.report_lines.proofs.put_notes.Statement.{statement}

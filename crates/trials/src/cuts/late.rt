@@ -21,13 +21,13 @@ use crate::tally::expect;
 use crate::tally::tick;
 use checkpoint_save::save_narrow;
 use fingerprint::Fingerprint;
-use matcher::Answer;
 use matcher::Matcher;
 use matcher::Stroke;
 use record::Written;
 use signature::Signature;
 use stage::Mark;
 use stage::Progression;
+use walk::Answer;
 
 // The t at which the watch lists nothing, 300 bytes before 4294967296.
 const LATE: u64 = 4294966996;

@@ -3,8 +3,8 @@ use crate::cards::accepted;
 use crate::compare::same_answer;
 use crate::compare::same_matcher;
 use crate::tally::expect;
-use matcher::Answer;
 use matcher::Matcher;
+use walk::Answer;
 
 // An uncut watch, one that was cut, and its last answer.
 pub struct Pair {

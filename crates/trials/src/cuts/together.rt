@@ -21,9 +21,9 @@ use crate::tally::STREAMS;
 use crate::tally::add;
 use crate::tally::expect;
 use crate::tally::mix_record;
-use matcher::Answer;
 use matcher::Matcher;
 use signature::Signature;
+use walk::Answer;
 
 // The patterns are the first bytes of one, so many of each, under these keys.
 const SIZES: [usize; 4] = [1, 5, 64, 2049];

@@ -17,11 +17,11 @@ use crate::tally::expect;
 use crate::tally::mix;
 use fingerprint::Fingerprint;
 use fingerprint::Key;
-use matcher::Answer;
 use matcher::Matcher;
 use naive_search::more;
 use signature::Builder;
 use signature::Signature;
+use walk::Answer;
 
 pub const LONGEST: usize = 1048576;
 

@@ -8,6 +8,7 @@ use borrow.Author.Tests.{not-true, not-false, lt-ltb, le-ltb}
 use Rattle.signature.specs.Signature.{maxLength}
 use Rattle.matcher.specs.Matcher.{matcherFits}
 use Rattle.matcher.specs.Stroke.{strokeAnswer, afterStroke}
+use Rattle.matcher.proofs.Climbing.{climbed}
 use Rattle.matcher.proofs.Shared.{shared-lone}
 use Rattle.matcher.proofs.Sound.{sound, card-of, shapes-fit}
 use Rattle.matcher.proofs.Matcher.stroke.Statement.{statement}
@@ -56,10 +57,7 @@ shifts-requires : tie.Need-shifts-requires
 shifts-requires c κs = search needs
 
 climb-requires : tie.Need-climb-requires
-climb-requires c κs =
-    let else1 = c .before .before .before .before .before .before in
-    let q = sound _ (fits else1) in
-    rw (c .before .next-mark .ensures) (card-of q .long, card-of q .short, refl, omega arith, shapes-fit _ q)
+climb-requires c κs = search needs
 
 moved-requires : tie.Need-moved-requires
 moved-requires c κs = search needs
@@ -73,11 +71,18 @@ returns-3 c =
     let else2 = c .before .before .before .before .before .before .before in
     let else1 = else2 .before .before .before in
     let of = else1 .before .before .before .of in
+    let table = shifts .ensures _ _ (of .ensures) (omega (arith, short else1)) (short else1) in
+    let args = else1 .before .before .before .before .before .args in
+    let q = sound _ (fits else1) in
+    let walk =
+    climbed (args .self) (args .byte) (shifts .result) table (card-of q) (q .within) (shapes-fit _ q) (next-mark .result)
+    (next-mark .ensures) (climb .result) (climb .ensures)
+    in
     rw (
       fits else1,
       lt-ltb _ _ (else2 .if2 .left),
       c .moved .ensures,
-      climb .ensures (shifts .ensures _ _ (of .ensures) (omega (arith, short else1)) (short else1)),
+      walk,
       next-mark .ensures,
     )
     (refl, (refl, refl))

@@ -1,17 +1,20 @@
 -- `matcher::Matcher::stroke_shared` meets its contract: each `return` has the tests that lead to it.
 use borrow.Author.Needs.{needs}
 use native.Mathlib.Omega.{arith}
+use Prim.Native.Nat.{_≤_}
 use mathlib.Core.Path.{_≡_, refl, sym, _∙_, ap}
 use mathlib.Core.Bool.{true, true≢false}
 use borrow.Author.Tests.{not-true, not-false}
 use Rattle.refusal.specs.declared.Verdict.the-variants.{Accepted}
 use Rattle.refusal.specs.Number.{number}
-use Rattle.powers.specs.Powers.{powersOf}
+use Rattle.powers.specs.Powers.{powersOf, Shifts}
 use Rattle.signature.specs.Signature.{maxLength}
 use Rattle.signature.proofs.Card.{SoundCard}
+use Rattle.stage.specs.Stage.{maxTaken}
 use Rattle.stage.specs.Stages.{shapesFit}
 use Rattle.matcher.specs.Shared.{sharedFits}
 use Rattle.matcher.proofs.Sound.{shapely-of}
+use Rattle.matcher.proofs.Climbing.{climbed}
 use Rattle.matcher.proofs.Quiet.{sooner}
 use Rattle.matcher.proofs.Shared.{brought, shared-key, brings-misfit, brings-spent, brings-walk, brings-quiet}
 use Rattle.matcher.proofs.Matcher.stroke_shared.Statement.{statement}
@@ -96,9 +99,7 @@ shifts-requires : tie.Need-shifts-requires
 shifts-requires c κs = search needs
 
 climb-requires : tie.Need-climb-requires
-climb-requires c κs =
-    let q = shaped (c .before .before .before .before .before .before) in
-    rw (c .before .before .next-mark .ensures) (q .0 .long, q .0 .short, refl, omega arith, q .1)
+climb-requires c κs = search needs
 
 returns-4 : tie.Need-returns-4
 returns-4 c =
@@ -108,12 +109,19 @@ returns-4 c =
     let if2 = c .before .before .before .before .before .if2 in
     let shifts = c .before .shifts in
     let climb = c .climb in
-    let short = shaped else1 .0 .short in
+    let card = shaped else1 .0 in
+    let late : args .self .now .at ≤ maxTaken = omega (arith, if2 .left) in
     brought (args .powers) (args .since) (args .self) (args .byte)
     (record { verdict = Accepted; moved = true; walk = climb .result })
     (λ e.
     let own = shared-key (args .powers .key) (args .since) (args .self) (fit else1 e) in
-    let walk = rw (next-mark .ensures) at (climb .ensures (rw own (shifts .ensures _ _ e short short))) in
+    let table : Shifts (args .self .signature .key) (args .self .signature .length) (shifts .result) =
+    rw own (shifts .ensures _ _ e (card .short) (card .short))
+    in
+    let walk =
+    climbed (args .self) (args .byte) (shifts .result) table card late (shaped else1 .1) (next-mark .result) (next-mark .ensures)
+    (climb .result) (climb .ensures)
+    in
     brings-walk _ _ _ (fit else1 e) _ _ (if2 .left) refl (ap (λ w. w .stages) walk) (ap (λ w. w .answer) walk))
     (λ e. absurd (true≢false e))
 

@@ -1,0 +1,3 @@
+mod Skips
+mod Skipping
+pub mod Running
