@@ -1,7 +1,7 @@
--- `report::behind_front` meets its contract.
+-- `report_loop::behind_front` meets its contract.
 use borrow.Author.Tests.{lt-ltb, le-ltb}
-use Rattle.report.proofs.behind_front.Statement.{statement}
-use Rattle.report.proofs.behind_front.Tie as tie
+use Rattle.report_loop.proofs.behind_front.Statement.{statement}
+use Rattle.report_loop.proofs.behind_front.Tie as tie
 
 returns : tie.Need-returns
 returns c = rw (lt-ltb _ _ (c .if1 .taken))

@@ -1,13 +1,13 @@
--- `report::run` meets its contract: the front, the chunks, and the last lines.
+-- `report_loop::run_with` meets its contract: the front, the chunks, and the last lines.
 use mathlib.Core.Path.{refl, sym, _∙_}
 use mathlib.Core.List.{[], _∷_}
 use lib.ListN.{take}
 use types.Run.{miss}
-use Rattle.report.specs.State as state
-use Rattle.report.proofs.Standings.{nothing, closed, ending, broken}
+use Rattle.report_loop.specs.State as state
+use Rattle.report_loop.proofs.Standings.{nothing, closed, ending, broken}
 use borrow.Author.Needs.{needs}
-use Rattle.report.proofs.run.Statement.{statement}
-use Rattle.report.proofs.run.Tie as tie
+use Rattle.report_loop.proofs.run_with.Statement.{statement}
+use Rattle.report_loop.proofs.run_with.Tie as tie
 
 read-front-requires : tie.Need-read-front-requires
 read-front-requires c κs = search needs
@@ -69,8 +69,8 @@ returns-3 c =
     let r = c .before .before .before .before .before .read-on .ensures in
     broken _ (r .1) (λ e. miss (0 ∷ 2 ∷ 3 ∷ []) 1 tt (rw e at (c .match .keys2))) (r .0 .1)
 
-pub run-spec : {M : Type 1} → statement M
-run-spec =
+pub run-with-spec : {M : Type 1} → statement M
+run-with-spec =
     tie.close
     (tie.spec
     read-front-requires

@@ -1,14 +1,14 @@
--- `report::open` meets its contract: the card is judged, and what stands behind it is passed.
+-- `report_loop::open` meets its contract: the card is judged, and what stands behind it is passed.
 use mathlib.Core.Path.{ap}
 use native.Mathlib.Omega.{arith}
-use Rattle.report.proofs.Passing.{all-of}
-use Rattle.report.proofs.Standings.{opened-refused, opened}
+use Rattle.report_loop.proofs.Passing.{all-of}
+use Rattle.report_loop.proofs.Standings.{opened-refused, opened}
 use Rattle.refusal.specs.Number.{number}
 use Rattle.refusal.proofs.Distinct.{refused-some}
 use Rattle.report_core.proofs.Sending.{taken-within, begun-fits}
 use borrow.Author.Needs.{needs}
-use Rattle.report.proofs.open.Statement.{statement}
-use Rattle.report.proofs.open.Tie as tie
+use Rattle.report_loop.proofs.open.Statement.{statement}
+use Rattle.report_loop.proofs.open.Tie as tie
 
 begin-requires : tie.Need-begin-requires
 begin-requires c κs = search needs

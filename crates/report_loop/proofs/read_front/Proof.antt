@@ -1,4 +1,4 @@
--- `report::read_front` meets its contract: the count lies within the part that is lent, which is as long as the longest card record.
+-- `report_loop::read_front` meets its contract: the count lies within the part that is lent, which is as long as the longest card record.
 use mathlib.Core.Path.{sym, _∙_}
 use native.Mathlib.Omega.{arith}
 use lib.ListN.{length-append}
@@ -6,8 +6,8 @@ use lib.Seq.{length-take-le}
 use Rattle.io.proofs.Counting.{counts}
 use borrow.Author.Needs.{needs}
 use Rattle.report_core.specs.Output.{cardBytes}
-use Rattle.report.proofs.read_front.Statement.{statement}
-use Rattle.report.proofs.read_front.Tie as tie
+use Rattle.report_loop.proofs.read_front.Statement.{statement}
+use Rattle.report_loop.proofs.read_front.Tie as tie
 
 slice-relend-prefix-fill : tie.Need-slice-relend-prefix-fill
 slice-relend-prefix-fill c = search needs

@@ -14,10 +14,10 @@ use Rattle.report_core.specs.Output.{cardBytes}
 use Rattle.report_core.specs.Progress.{progressFits, heard}
 use Rattle.report_core.specs.Calls.{lastLines}
 use Rattle.report_core.specs.Sent.{Sent, Whole, Partly}
-use Rattle.report.specs.declared.Status.{Status}
-use Rattle.report.specs.declared.Status.the-variants.{More, Ended, Unreadable, Unwritable}
-use Rattle.report.specs.declared.State.{State}
-use Rattle.report.specs.declared.Outcome.{Outcome}
+use Rattle.report_loop.specs.declared.Status.{Status}
+use Rattle.report_loop.specs.declared.Status.the-variants.{More, Ended, Unreadable, Unwritable}
+use Rattle.report_loop.specs.declared.State.{State}
+use Rattle.report_loop.specs.declared.Outcome.{Outcome}
 
 -- The size of the output buffer: no byte's lines are longer, so no more than so many times t bytes are written before the last lines.
 abbrev pub bufferSize : ℕ

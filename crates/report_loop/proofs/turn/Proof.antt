@@ -1,12 +1,12 @@
--- `report::turn` meets its contract: a chunk that was read is counted, and then passed.
+-- `report_loop::turn` meets its contract: a chunk that was read is counted, and then passed.
 use mathlib.Core.Path.{refl}
 use native.Mathlib.Omega.{arith}
 use Rattle.report_core.proofs.Hearing.{fits-within}
-use Rattle.report.proofs.Standings.{ends, passes}
-use Rattle.report.specs.State as state
+use Rattle.report_loop.proofs.Standings.{ends, passes}
+use Rattle.report_loop.specs.State as state
 use borrow.Author.Needs.{needs}
-use Rattle.report.proofs.turn.Statement.{statement}
-use Rattle.report.proofs.turn.Tie as tie
+use Rattle.report_loop.proofs.turn.Statement.{statement}
+use Rattle.report_loop.proofs.turn.Tie as tie
 
 read-requires : tie.Need-read-requires
 read-requires c κs = search needs

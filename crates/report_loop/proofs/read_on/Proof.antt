@@ -1,15 +1,15 @@
--- `report::read_on` meets its contract: each turn keeps what was written the output of what was read, and brings t nearer to its limit.
+-- `report_loop::read_on` meets its contract: each turn keeps what was written the output of what was read, and brings t nearer to its limit.
 use mathlib.Core.Path.{_≡_, refl, sym, _∙_}
 use lib.ListN.{length}
 use Rattle.report_core.proofs.Hearing.{fits-within}
-use Rattle.report.specs.State.{Stands}
-use Rattle.report.proofs.Standings.{distance, turned, nearer, reading}
+use Rattle.report_loop.specs.State.{Stands}
+use Rattle.report_loop.proofs.Standings.{distance, turned, nearer, reading}
 use mathlib.Core.List.{[], _∷_}
 use types.Run.{miss}
-use Rattle.report.specs.declared.Status.the-variants.{More}
+use Rattle.report_loop.specs.declared.Status.the-variants.{More}
 use borrow.Author.Needs.{needs}
-use Rattle.report.proofs.read_on.Statement.{statement}
-use Rattle.report.proofs.read_on.Tie as tie
+use Rattle.report_loop.proofs.read_on.Statement.{statement}
+use Rattle.report_loop.proofs.read_on.Tie as tie
 
 abbrev Inv-loop : tie.InvT-loop
 Inv-loop input₀ out₀ s₀ status₀ input out s status =

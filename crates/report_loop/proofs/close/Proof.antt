@@ -1,16 +1,16 @@
--- `report::close` meets its contract: the last lines are written from the buffer's front, and counted.
+-- `report_loop::close` meets its contract: the last lines are written from the buffer's front, and counted.
 use Prim.Native.Nat.{_+_}
 use mathlib.Core.Path.{_≡_, refl, sym, _∙_, ap}
 use native.Mathlib.Omega.{arith}
 use lib.Seq.{length-take-le}
 use Rattle.report_core.proofs.Putting.{PutAt, last-at}
-use Rattle.report.specs.State as state
+use Rattle.report_loop.specs.State as state
 use Rattle.descriptor.proofs.Written.{all-written}
 use Rattle.refusal.specs.Number.{number}
 use Rattle.report_core.specs.Calls.{lastLines}
 use borrow.Author.Needs.{needs}
-use Rattle.report.proofs.close.Statement.{statement}
-use Rattle.report.proofs.close.Tie as tie
+use Rattle.report_loop.proofs.close.Statement.{statement}
+use Rattle.report_loop.proofs.close.Tie as tie
 
 -- the places: where the last lines were put, and the function's begin
 abbrev finished : tie.After-put → tie.After-finish

@@ -21,12 +21,12 @@ use Rattle.report_core.specs.Calls.{Begins}
 use Rattle.report_core.specs.Sent.{Sent, Partly}
 use Rattle.report_core.proofs.Hearing.{fits-within, heard-later}
 use Rattle.report_core.proofs.Sending.{heard-all, sent-refused, sent-first, sent-more, sent-over, sent-partly}
-use Rattle.report.specs.declared.Status.{Status}
-use Rattle.report.specs.declared.Status.the-variants.{More, Ended, Unreadable, Unwritable}
-use Rattle.report.specs.declared.State.{State}
-use Rattle.report.specs.declared.Outcome.{Outcome}
-use Rattle.report.specs.State.{bufferSize, Sound, Took, Passed, behindFront, Ready, Goes, on, over, Turned, Standing, Stands, Closed, Over}
-use Rattle.report.specs.State as state
+use Rattle.report_loop.specs.declared.Status.{Status}
+use Rattle.report_loop.specs.declared.Status.the-variants.{More, Ended, Unreadable, Unwritable}
+use Rattle.report_loop.specs.declared.State.{State}
+use Rattle.report_loop.specs.declared.Outcome.{Outcome}
+use Rattle.report_loop.specs.State.{bufferSize, Sound, Took, Passed, behindFront, Ready, Goes, on, over, Turned, Standing, Stands, Closed, Over}
+use Rattle.report_loop.specs.State as state
 
 -- a run's count and state, put in other words
 sent-as :

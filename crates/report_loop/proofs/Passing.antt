@@ -18,8 +18,8 @@ use Rattle.report_core.specs.Progress.{Heard, stopped, behind, heardWhile, hear
 use Rattle.report_core.specs.Calls.{Feeds}
 use Rattle.report_core.proofs.Hearing.{heard-by, behind-behind, heard-moves, heard-within, heard-later, heard-none, heard-fits, heard-piece}
 use Rattle.report_core.proofs.Feeding.{fed-on}
-use Rattle.report.specs.declared.State.{State}
-use Rattle.report.specs.State.{bufferSize, Sound, Took}
+use Rattle.report_loop.specs.declared.State.{State}
+use Rattle.report_loop.specs.State.{bufferSize, Sound, Took}
 
 -- the part of a chunk from a place on, as it is lent
 pub all-of : (n : ℕ) (xs : List ℕ) → take (length xs - n) (drop n xs) ≡ drop n xs

@@ -1,4 +1,4 @@
--- `report::pass` meets its contract: each turn writes what one call of `feed` brought.
+-- `report_loop::pass` meets its contract: each turn writes what one call of `feed` brought.
 use Prim.Native.Nat.{_+_, _-_, _<_, _≤_}
 use mathlib.Core.Path.{_≡_, refl, sym, _∙_, ap}
 use native.Mathlib.Omega.{arith}
@@ -11,11 +11,11 @@ use Rattle.refusal.proofs.Distinct.{refused-some}
 use Rattle.report_core.specs.Progress.{fed}
 use Rattle.report_core.specs.Calls.{Feeds}
 use Rattle.report_core.proofs.Hearing.{fits-within}
-use Rattle.report.specs.State.{bufferSize, unwritten, taken, refused}
-use Rattle.report.proofs.Passing as Passing
+use Rattle.report_loop.specs.State.{bufferSize, unwritten, taken, refused}
+use Rattle.report_loop.proofs.Passing as Passing
 use borrow.Author.Needs.{needs}
-use Rattle.report.proofs.pass.Statement.{statement}
-use Rattle.report.proofs.pass.Tie as tie
+use Rattle.report_loop.proofs.pass.Statement.{statement}
+use Rattle.report_loop.proofs.pass.Tie as tie
 
 abbrev Inv-loop : tie.InvT-loop
 Inv-loop s chunk out₀ p₀ next₀ written₀ out p next written =
