@@ -27,7 +27,7 @@ use Rattle.scanner.specs.declared.Ended.{Ended}
 use Rattle.matcher.specs.Matcher.{matcherFits, moved}
 use Rattle.walk.specs.Walk.{silent, nextMark}
 use Rattle.matcher.specs.Stroke.{walked, strokeRefusal, strokeAnswer}
-use Rattle.notes.specs.Notes.{notesOf, noteRoom, notesWithin}
+use Rattle.notes.specs.Notes.{notesOf, noteRoom}
 use Rattle.notes.proofs.Noting.{silent-notes}
 use Rattle.scanner.specs.Scan.{Scanned, halted, scanned, scanOf}
 use Rattle.scanner.specs.Skip.{skipped, endOf, Ends}

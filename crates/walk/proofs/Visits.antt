@@ -13,7 +13,6 @@ use Rattle.lists.proofs.Cases.{by-test}
 use Rattle.stage.specs.declared.Mark.{Mark}
 use Rattle.stage.specs.declared.Stage.{Stage}
 use Rattle.stage.specs.declared.Progression.{Progression}
-use Rattle.stage.specs.declared.Aside.{Aside}
 use Rattle.stage.specs.declared.Aside.the-variants.{Nothing, Set}
 use Rattle.stage.specs.Stage.{takenOff, entered, setsAside, allButLast}
 use Rattle.stage.specs.Stages.{Whole, stageAt, withStage}

@@ -1,7 +1,7 @@
 -- `scanner::run` meets its contract: the loop keeps the run going, with the notes of the bytes taken at the list's front.
 use borrow.Author.Needs.{needs}
 use Prim.Native.Nat.{_+_, _-_, _≤_}
-use mathlib.Core.Path.{_≡_, refl, sym, _∙_}
+use mathlib.Core.Path.{_≡_, sym, _∙_}
 use native.Mathlib.Omega.{arith}
 use borrow.Author.Tests.{not-false, le-leb}
 use lib.ListN.{length, getD}
