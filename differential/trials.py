@@ -1,61 +1,53 @@
 #!/usr/bin/env python3
-"""What the trial program of whole runs (crate trials) must write.
+"""The cases of the trial program (crate `trials`), and what it must write of them.
 
-What is tried is replayed: the generator of patterns and streams, the shapes and
-lengths, the order of calls and the printed lines are written from the program
-(crates/trials). What comes out is worked out without it: answers by the ladder
-with unlimited lists (reference.py), occurrences by a search over the bytes.
+A case is a key, a pattern and a stream. The program takes the stream several times
+over, cut by parking and resuming in other places, and prints counts. What they must
+come to is worked out without the crates: answers by the ladder with unlimited lists
+(reference.py), occurrences and demand 3 by a search over the bytes (search.py). No cut
+may change an answer, so every pass must answer as the ladder does.
 
-    trials.py > crates/trials/stdout
-    trials.py runs
-    trials.py cuts
+    trials.py --write       writes crates/trials/stdin and crates/trials/stdout
+    trials.py FILE          what must be written of the cases in a file
 """
 
-import copy
+import os
+import random
 import sys
+from collections import namedtuple
 
 sys.dont_write_bytecode = True
 
-from card import make_card, write_card
-from parked import LAST_NARROW_T, NARROW, WIDE, write_parked
-from reference import Ladder, late_ladder
+import inputs
+import search
+from card import LARGEST_KEY, card_record, field, make_card, number
+from reference import Ladder, listing
+
+CRATE = os.path.join(os.path.dirname(os.path.dirname(os.path.abspath(__file__))), "crates", "trials")
+
+Case = namedtuple("Case", "key pattern stream")
 
 
-# ---- The generator -----------------------------------------------------------
+# ---- Patterns and streams ----------------------------------------------------
 
-def following(state):
-    """The generator's next state."""
-    return (state * 1664525 + 1013904223) % 2 ** 32
+# Keys: three under which collisions are easily made, and two large ones.
+KEYS = [2, 3, 5, 1000003, LARGEST_KEY]
+LETTERS = [1, 2, 3, 256]
 
-
-def below(state, n):
-    """A number below n, out of the upper bits of a state."""
-    return state // 65536 % n
-
-
-class Shape:
-    """What a pattern and its streams are drawn from."""
-
-    def __init__(self, letters, least, period, key, seed):
-        self.letters, self.least, self.period = letters, least, period
-        self.key, self.seed = key, seed
-
-    def letter(self, state):
-        return (below(state, self.letters) + self.least) % 256
+# Flavours of patterns: drawn throughout; with a short period; the same twisted, with
+# a long period; one letter throughout, twisted. A twisted pattern holds a collision
+# with its own prefixes if its key allows one.
+FLAVOURS = DRAWN, PERIODIC, TWISTED, LONG_PERIOD, ONE_TWISTED = tuple(range(5))
 
 
-def pattern_of(m, shape):
-    """A pattern of m bytes that repeats itself after its period."""
-    pattern, state = bytearray(), shape.seed
-    for i in range(m):
-        state = following(state)
-        pattern.append(shape.letter(state) if i < shape.period else pattern[i - shape.period])
-    return bytes(pattern)
+def drawn(rng, letters, n):
+    """n bytes out of some letters."""
+    return bytes(rng.choice(letters) for _ in range(n))
 
 
 def twin(pattern, turn, key):
-    """The pattern with one less at the turn and the key more behind it; as it
-    was where these are no bytes."""
+    """The pattern with one less at the turn and the key more behind it, which leaves the
+    fingerprint as it was; as it was where these are no bytes."""
     upper = pattern[turn]
     lower = pattern[turn + 1] if turn + 1 < len(pattern) else 0
     if upper == 0 or lower + key > 255:
@@ -63,394 +55,190 @@ def twin(pattern, turn, key):
     return (pattern[:turn] + bytes([upper - 1, lower + key]) + pattern[turn + 2:])[:len(pattern)]
 
 
-def pieces(pattern, shape, state):
-    """The bytes of a stream without end, piece after piece."""
-    while True:
-        kind = below(following(state), 9)
-        state = following(following(state))
-        turn = below(state, len(pattern))
-        piece = pattern
-        if kind == 1:
-            piece = pattern[:turn] + bytes([(pattern[turn] + 1) % 256]) + pattern[turn + 1:]
-        elif kind == 2:
-            piece = twin(pattern, turn, shape.key)
-        elif kind == 3:
-            piece = pattern[:turn + 1]
-        elif kind == 4:
-            piece = pattern[turn:]
-        elif kind == 5:
-            piece = [None] * (turn % 40 + 1)
-        elif kind == 6:
-            piece = pattern[-shape.period:]
-        for byte in piece:
-            state = following(state)
-            yield shape.letter(state) if byte is None else byte
+def any_pattern(rng, m, flavour, letters, key):
+    """A pattern of m bytes, and its period before it was twisted."""
+    period = {DRAWN: m, LONG_PERIOD: m // 2 + 1}.get(flavour, rng.randint(1, 9))
+    pattern = (drawn(rng, letters, min(period, m)) * m)[:m]
+    if flavour in (TWISTED, ONE_TWISTED):
+        pattern = twin(pattern, rng.randrange(m), key)
+    return pattern, period
 
 
-def stream_of(n, pattern, shape):
-    source = pieces(pattern, shape, following(shape.seed))
-    return bytes(next(source) for _ in range(n))
-
-
-# ---- Tallies -------------------------------------------------------------------
-
-def mixed(digest, value):
-    return (digest * 65599 + value) % 4294967291
-
-
-class Tally:
-    """The counters of a group."""
-
-    def __init__(self):
-        self.streams = self.bytes = self.occurrences = self.missed = 0
-        self.rings = self.false_rings = self.sets = self.aside = 0
-        self.comparisons = self.digest = self.records = 0
-        self.parked = self.resumed = self.refused = 0
-
-    def mix(self, *values):
-        for value in values:
-            self.digest = mixed(self.digest, value)
-
-    def mix_record(self, record):
-        for byte in record:
-            self.records = mixed(self.records, byte)
-
-    def answer(self, rung, sets, comparisons):
-        self.rings += rung is not None
-        self.sets += len(sets)
-        self.aside += sum(many for _, _, many in sets)
-        self.comparisons += comparisons
-        self.mix_answer(rung, sets, comparisons)
-
-    def mix_answer(self, rung, sets, comparisons):
-        self.mix(comparisons, len(sets), 0 if rung is None else rung + 1)
-        for one in sets:
-            self.mix(*one)
-
-    def find(self, pattern, stream, rung, aside):
-        """Occurrences, by a search over the bytes."""
-        found = {start for start in range(len(stream) - len(pattern) + 1)
-                 if stream.startswith(pattern, start)}
-        assert found <= rung | aside and not rung & aside
-        self.occurrences += len(found)
-        self.missed += len(found & aside)
-        self.false_rings += len(rung - found)
-
-    def settle(self, pattern, stream, rung, aside):
-        self.find(pattern, stream, rung, aside)
-        self.streams += 1
-        self.bytes += len(stream)
-
-
-def starts(sets):
-    return {first + step * i for first, step, many in sets for i in range(many)}
-
-
-# ---- Uncut runs ----------------------------------------------------------------
-
-LENGTHS = [1, 2, 3, 4, 5, 7, 8, 9, 15, 16, 17, 31, 32, 33, 63, 64, 65, 100,
-           2047, 2048, 2049, 4000]
-KEYS = [2, 3, 5, 1000003, 2147483646]
-LETTERS = [1, 2, 3, 256]
-SHORT_TWISTED, LONG, ONE_TWISTED = 2, 3, 4
-
-
-def shape_of(m, i):
-    """The shape number i of patterns of m bytes."""
-    flavour, seed = i // 20, m * 128 + i
-    letters, key = LETTERS[i % 4], KEYS[i // 4 % 5]
-    period = below(following(seed), 9) + 1
-    if flavour == 0:
-        period = m
-    if flavour == LONG:
-        period = m // 2 + 1
-    if flavour == ONE_TWISTED:
-        letters, key = 1, KEYS[i // 2 % 3]
-    return Shape(letters, i // 3 % 3, period, key, seed)
-
-
-def trial_pattern(m, i, shape):
-    pattern = pattern_of(m, shape)
-    if i // 20 in (SHORT_TWISTED, ONE_TWISTED):
-        pattern = twin(pattern, below(following(following(shape.seed)), m), shape.key)
+def any_piece(rng, pattern, period, letters, key):
+    """A piece of a stream: the pattern more often than anything else."""
+    kind, turn = rng.randrange(9), rng.randrange(len(pattern))
+    if kind == 1:                       # a near miss
+        return pattern[:turn] + bytes([(pattern[turn] + 1) % 256]) + pattern[turn + 1:]
+    if kind == 2:
+        return twin(pattern, turn, key)
+    if kind == 3:
+        return pattern[:turn + 1]
+    if kind == 4:
+        return pattern[turn:]
+    if kind == 5:
+        return drawn(rng, letters, turn % 40 + 1)
+    if kind == 6:
+        return pattern[-period:]
     return pattern
 
 
-def trial(m, i, tally):
-    shape = shape_of(m, i)
-    pattern = trial_pattern(m, i, shape)
-    stream = stream_of(600 if m < 1000 else 9000, pattern, shape)
-    ladder = Ladder(make_card(pattern, shape.key))
-    rung, aside = set(), set()
-    for byte in stream:
-        answer = ladder.take(byte)
-        tally.answer(*answer)
-        rung |= {answer[0]} - {None}
-        aside |= starts(answer[1])
-    tally.settle(pattern, stream, rung, aside)
+def any_case(rng, m, n, flavour, key, many):
+    """A pattern of m bytes out of so many letters and a stream of n bytes."""
+    least = rng.randrange(3)
+    letters = [(least + i) % 256 for i in range(1 if flavour == ONE_TWISTED else many)]
+    pattern, period = any_pattern(rng, m, flavour, letters, key)
+    stream = b""
+    while len(stream) < n:
+        stream += any_piece(rng, pattern, period, letters, key)
+    return Case(key, pattern, stream[:n])
 
 
-# The longest pattern: 5 bytes, the pattern, which goes on for 60 bytes more; one
-# place altered.
-LONGEST, LONGEST_KEY, LEAD, TRAIL = 1048576, 1234567891, 5, 60
+def of_input(one):
+    """The case of an input of the printing program."""
+    return Case(one.key, one.passage, one.stream)
 
 
-def longest_trial(period, altered, tally):
-    whole = bytes(following(following(i % period)) >> 24 for i in range(LONGEST + TRAIL))
-    pattern, stream = whole[:LONGEST], bytearray(bytes([7]) * LEAD + whole)
-    if altered >= LEAD:
-        stream[altered] = 255 - stream[altered]
-    ladder = Ladder(make_card(pattern, LONGEST_KEY))
-    rung = set()
-    for byte in stream:
-        start, sets, comparisons = ladder.take(byte)
-        assert not sets
-        rung |= {start} - {None}
-        tally.rings += start is not None
-        tally.comparisons += comparisons
-        tally.mix(comparisons)
-    tally.settle(pattern, bytes(stream), rung, set())
+# ---- The cases -----------------------------------------------------------------
+
+SHORT = 64                      # the longest stream that is cut before each byte alone
+LONGEST_PATTERN, LONGEST_STREAM = 4096, 9000
+LENGTHS = [1, 2, 3, 4, 5, 7, 8, 9, 15, 16, 17, 31, 32, 33, 63, 64, 65, 100]
+LONG_LENGTHS = [2047, 2048, 2049]
+
+# Document 01: case L; M9 and M10, "a phantom"; M11 and M12, "both 15".
+CASE_L = Case(2, bytes([1] * 8), bytes([1, 1, 1, 1, 1, 0, 3]))
+PHANTOMS = [Case(2, bytes([1, 1, 1, 0]), bytes([1, 1, 0, 2])), Case(2, bytes([1, 1, 1, 1]), bytes([1, 1, 0, 3]))]
 
 
-def run_line(m, tally):
-    print("length %d: streams %d, bytes %d, occurrences %d of which set aside %d, "
-          "rings %d of which false %d, sets %d of starts %d, comparisons %d, "
-          "digest %d, failures 0"
-          % (m, tally.streams, tally.bytes, tally.occurrences, tally.missed, tally.rings,
-             tally.false_rings, tally.sets, tally.aside, tally.comparisons, tally.digest),
-          flush=True)
+def fixed_cases():
+    """The cases of crates/trials/stdin. Each length has each flavour with two keys, in a
+    stream that is cut before each byte alone too, and in a longer one."""
+    yield from [CASE_L, *PHANTOMS, Case(2, b"ding", b"")]
+    rng, i = random.Random(1), 0
+    for m in LENGTHS:
+        for flavour in FLAVOURS * 2:
+            key, many = KEYS[i % (3 if flavour in (TWISTED, ONE_TWISTED) else 5)], LETTERS[i // 5 % 4]
+            yield any_case(rng, m, SHORT if m < SHORT else 2 * m + SHORT, flavour, key, many)
+            yield any_case(rng, m, 400, flavour, key, many)
+            i += 1
+    for m in LONG_LENGTHS:
+        for flavour in FLAVOURS:
+            yield any_case(rng, m, 6000, flavour, KEYS[i % 3], LETTERS[i % 4])
+            i += 1
+    yield any_case(rng, LONGEST_PATTERN, LONGEST_STREAM, TWISTED, 2, 2)
+    for kind in (inputs.uneven, inputs.few_prints, inputs.phantoms, inputs.own_phantoms) * 6:
+        yield of_input(kind(rng))
 
+
+def random_cases(seed, count):
+    """Cases of every sort, few of them long."""
+    rng = random.Random(seed)
+    for i in range(count):
+        if i % 5 == 0:
+            yield of_input(rng.choice([inputs.uneven, inputs.few_prints, inputs.phantoms, inputs.own_phantoms])(rng))
+            continue
+        m = rng.choice([rng.randint(1, 9), rng.randint(1, 70), rng.choice(LENGTHS), rng.randint(1, 300)])
+        n = rng.choice([rng.randint(0, SHORT), rng.randint(0, SHORT), rng.randint(0, 3 * m + 9), 600])
+        if rng.random() < 0.01:
+            m, n = rng.randint(1, LONGEST_PATTERN), rng.randint(0, LONGEST_STREAM)
+        key = rng.choice([*KEYS, rng.randint(2, 20), rng.randint(2, LARGEST_KEY)])
+        yield any_case(rng, m, n, rng.choice(FLAVOURS), key, rng.choice(LETTERS))
+
+
+def written(cases):
+    """The program's standard input."""
+    return b"".join(number(case.key) + number(len(case.pattern)) + number(len(case.stream)) + case.pattern + case.stream
+                    for case in cases)
+
+
+def read(data):
+    """The cases that these bytes are."""
+    at = 0
+    while at < len(data):
+        key, m, n = field(data, at), field(data, at + 4), field(data, at + 8)
+        end = at + 12 + m + n
+        assert end <= len(data), "cut short"
+        yield Case(key, data[at + 12:at + 12 + m], data[at + 12 + m:end])
+        at = end
+
+
+# ---- What must be printed --------------------------------------------------------
+
+def digest_of(answers):
+    """The numbers of all answers, mixed in their order."""
+    digest = 0
+    for rung, sets, comparisons in answers:
+        # a ring is 0, or one more than its start
+        for value in (comparisons, len(sets), 0 if rung is None else rung + 1, *(n for one in sets for n in one)):
+            digest = (digest * 65599 + value) % 4294967291
+    return digest
+
+
+def passes_and_cuts(n):
+    """How often a stream of n bytes is taken, and how often it is cut in all."""
+    # uncut; before each byte; and before each byte alone
+    return (2 + n, 2 * n) if n <= SHORT else (2, n)
+
+
+def line(i, case):
+    """The line of case number i. Counts are those of all passes, each of which must answer alike."""
+    ladder = Ladder(make_card(case.pattern, case.key))
+    answers = [ladder.take(byte) for byte in case.stream]
+    faults = search.faults(case.pattern, case.key, case.stream,
+                           listing(card_record(case.pattern, case.key) + case.stream))
+    assert not faults, "the reference does not meet demand 3: %s" % faults
+    rung = [start for start, _, _ in answers if start is not None]
+    sets = [one for _, ones, _ in answers for one in ones]
+    aside = {first + step * j for first, step, many in sets for j in range(many)}
+    found = search.true_occurrences(case.pattern, case.stream)
+    passes, cuts = passes_and_cuts(len(case.stream))
+    counts = [len(found), len(aside.intersection(found)), len(rung), len(set(rung).difference(found)), len(sets),
+              sum(many for _, _, many in sets), sum(comparisons for _, _, comparisons in answers)]
+    numbers = [i, len(case.pattern), len(case.stream), passes, cuts, *(passes * count for count in counts),
+               digest_of(answers), 0]
+    return b" ".join(b"%d" % n for n in numbers) + b"\n"
+
+
+COLUMNS = b"case pattern stream passes cuts occurrences missed rings false sets aside comparisons digest failures\n"
+
+
+def lines(cases, end=b"failures 0\n"):
+    """What the program must write of these cases."""
+    return COLUMNS + b"".join(line(i, case) for i, case in enumerate(cases, 1)) + end
+
+
+# ---- Runs for differential/gate --------------------------------------------------
 
 def runs():
-    for m in LENGTHS:
-        tally = Tally()
-        for i in range(0, 100, 1 if m < 1000 else 3):
-            trial(m, i, tally)
-        run_line(m, tally)
-    tally = Tally()
-    longest_trial(LONGEST, 0, tally)
-    longest_trial(LONGEST, 1000000, tally)
-    longest_trial(7, 0, tally)
-    run_line(LONGEST, tally)
-    print("failures 0")
+    """Runs of the program: a name, its standard input, and what it must write."""
+    with open(os.path.join(CRATE, "stdin"), "rb") as file:
+        data = file.read()
+    yield "the crate's cases", data, lines(read(data))
+    for seed in range(12):
+        cases = list(random_cases(seed, 50))
+        yield "50 cases at random, seed %d" % seed, written(cases), lines(cases)
+    yield "no case", b"", lines([])
+    whole = written([CASE_L, *PHANTOMS])
+    spoilt = {"a head cut short": bytes(11), "a pattern cut short": number(2) + number(5) + number(0) + b"ding",
+              "a stream cut short": written([CASE_L])[:-1],
+              "a long pattern": written([Case(2, bytes(LONGEST_PATTERN + 1), b"")]),
+              "a long stream": written([Case(2, b"x", bytes(LONGEST_STREAM + 1))])}
+    for name, data in spoilt.items():
+        yield name, whole + data, lines([CASE_L, *PHANTOMS], b"a case is cut short or too long\nfailures 1\n")
 
 
-# ---- Cut runs ------------------------------------------------------------------
+def main():
+    if len(sys.argv) != 2:
+        sys.exit(__doc__)
+    if sys.argv[1] != "--write":
+        with open(sys.argv[1], "rb") as file:
+            sys.stdout.buffer.write(lines(read(file.read())))
+        return
+    cases = list(fixed_cases())
+    for name, data in (("stdin", written(cases)), ("stdout", lines(cases))):
+        with open(os.path.join(CRATE, name), "wb") as file:
+            file.write(data)
 
-def form_at(n):
-    """Every other parking is narrow."""
-    return NARROW if n % 2 else WIDE
-
-
-def parked(ladder, form):
-    """The record of a parked watch."""
-    card, F = ladder.card, ladder.F
-    fields = [card.m, card.key, card.prints[-1], ladder.t, F[-1]]
-    for stage in ladder.stages:
-        held = len(stage)
-        if held == 0:
-            fields += [0] * 7
-            continue
-        first, last, step, step_print = stage[0], stage[-1], 0, 0
-        if held > 1:
-            step = stage[1] - first
-            step_print = ladder.print_of(first, step)
-        fields += [held, first, F[first], last, F[last], step, step_print]
-    return write_parked(form, fields)
-
-
-def cut(ladder, tally, form):
-    tally.mix_record(parked(ladder, form))
-    tally.parked += 1
-    tally.resumed += 1
-
-
-def cut_in_turn(m, i, tally):
-    shape = shape_of(m, i)
-    pattern = trial_pattern(m, i, shape)
-    card = make_card(pattern, shape.key)
-    stream = stream_of(600 if m < 1000 else 4000, pattern, shape)
-    tally.mix_record(write_card(card))
-    ladder, rung, aside = Ladder(card), set(), set()
-    cut(ladder, tally, form_at(0))
-    for byte in stream:
-        answer = ladder.take(byte)
-        tally.answer(*answer)
-        rung |= {answer[0]} - {None}
-        aside |= starts(answer[1])
-        cut(ladder, tally, form_at(ladder.t))
-    tally.settle(pattern, stream, rung, aside)
-
-
-def cut_alone(m, i, tally):
-    """For each place of the stream a run that is cut there and nowhere else. The
-    bytes before the cut are those of the uncut run and are taken once."""
-    shape = shape_of(m, i)
-    pattern = trial_pattern(m, i, shape)
-    card = make_card(pattern, shape.key)
-    stream = stream_of(m + 100, pattern, shape)
-    tally.mix_record(write_card(card))
-    ladder, answers = Ladder(card), []
-    records = [parked(ladder, form_at(0))]
-    for byte in stream:
-        answers.append(ladder.take(byte))
-        records.append(parked(ladder, form_at(ladder.t)))
-    rung = {answer[0] for answer in answers} - {None}
-    aside = {start for answer in answers for start in starts(answer[1])}
-    for taken, record in enumerate(records):
-        tally.mix_record(record)
-        tally.parked += 1
-        tally.resumed += 1
-        for answer in answers[taken:]:
-            tally.answer(*answer)
-        tally.bytes += len(stream) - taken
-        tally.find(pattern, stream, rung, aside)
-        if taken < len(stream):         # and the uncut run takes a byte more
-            tally.answer(*answers[taken])
-            tally.bytes += 1
-    tally.streams += 1
-
-
-# The watches that share a stream and a buffer: the patterns are the first bytes
-# of one, so many of each, under these keys.
-BESIDE = [(1, 2), (5, 1000003), (64, 3), (2049, 2147483646)]
-
-
-def cut_together(m, i, tally):
-    shape = shape_of(m, i)
-    pattern = trial_pattern(m, i, shape)
-    stream = stream_of(4000, pattern, shape)
-    ladders = [Ladder(make_card(pattern[:size], key)) for size, key in BESIDE]
-    rung, aside = [set() for _ in BESIDE], [set() for _ in BESIDE]
-    park_together(ladders, tally)
-    for byte in stream:
-        for j, ladder in enumerate(ladders):
-            answer = ladder.take(byte)
-            tally.answer(*answer)
-            rung[j] |= {answer[0]} - {None}
-            aside[j] |= starts(answer[1])
-        park_together(ladders, tally)
-    for j, (size, _) in enumerate(BESIDE):
-        tally.settle(pattern[:size], stream, rung[j], aside[j])
-
-
-def park_together(ladders, tally):
-    # "Several watches park one behind another, each written into the rest of the
-    # same buffer."
-    for j, ladder in enumerate(ladders):
-        cut(ladder, tally, form_at(ladder.t + j))
-
-
-class History:
-    """A watch with its history: the bytes taken, what rang and what was set aside."""
-
-    def __init__(self, card):
-        self.ladder, self.bytes, self.rung, self.aside = Ladder(card), bytearray(), set(), set()
-
-    def take(self, byte, tally):
-        self.bytes.append(byte)
-        answer = self.ladder.take(byte)
-        tally.answer(*answer)
-        tally.bytes += 1
-        self.rung |= {answer[0]} - {None}
-        self.aside |= starts(answer[1])
-
-    def find(self, pattern, tally):
-        tally.find(pattern, bytes(self.bytes), self.rung, self.aside)
-
-
-def cut_in_lists(m, i, tally):
-    """Two lists of calls. What was parked is kept whole, with its history, and may
-    be resumed in either list."""
-    shape = shape_of(m, i)
-    pattern = trial_pattern(m, i, shape)
-    card = make_card(pattern, shape.key)
-    tally.mix_record(write_card(card))
-    source, state, kept = pieces(pattern, shape, shape.seed), shape.seed, {}
-    for _ in range(2):
-        now = History(card)
-        for _ in range(300):
-            state = following(state)
-            kind, slot = below(state, 20), below(following(state), 3)
-            if kind == 0:
-                kept[slot] = copy.deepcopy(now)
-                tally.mix_record(parked(now.ladder, form_at(below(following(following(state)), 2))))
-                tally.parked += 1
-            elif kind == 1:
-                if slot in kept:
-                    now.find(pattern, tally)
-                    now = copy.deepcopy(kept[slot])
-                    tally.resumed += 1
-            elif kind in (2, 3, 4):
-                tally.refused += 1
-            else:
-                now.take(next(source), tally)
-        now.find(pattern, tally)
-        tally.streams += 1
-
-
-# The t at which a late watch is resumed from a narrow record; half of the stream is below 2^32.
-LATE = LAST_NARROW_T + 1 - 300
-
-
-def cut_late(m, i, tally):
-    """A watch that listed nothing at a late t, cut at every byte by both records; A.5: "A narrow
-    record can be written [...] while t is at most 4294967295". Its answers are those of a fresh
-    watch, which the search judges, with the starts raised."""
-    shape = shape_of(m, i)
-    pattern = trial_pattern(m, i, shape)
-    stream = stream_of(600, pattern, shape)
-    card = make_card(pattern, shape.key)
-    tally.mix_record(write_card(card))
-    ladder, rung, aside = late_ladder(card, LATE), set(), set()
-    cut_twice(ladder, tally)
-    for byte in stream:
-        start, sets, comparisons = ladder.take(byte)
-        lowered = None if start is None else start - LATE
-        lowered_sets = [(first - LATE, step, many) for first, step, many in sets]
-        tally.answer(lowered, lowered_sets, comparisons)
-        tally.mix_answer(start, sets, comparisons)
-        rung |= {lowered} - {None}
-        aside |= starts(lowered_sets)
-        cut_twice(ladder, tally)
-    tally.settle(pattern, stream, rung, aside)
-
-
-def cut_twice(ladder, tally):
-    """By a wide record, and by a narrow one unless that is refused."""
-    cut(ladder, tally, WIDE)
-    if ladder.t <= LAST_NARROW_T:
-        cut(ladder, tally, NARROW)
-    else:
-        tally.refused += 1
-
-
-def cut_group(name, m, trial, numbers):
-    tally = Tally()
-    for i in numbers:
-        trial(m, i, tally)
-    print("%s, length %d: streams %d, bytes %d, parkings %d, resumptions %d, refused %d, "
-          "occurrences %d, rings %d, sets %d, digests %d %d, failures 0"
-          % (name, m, tally.streams, tally.bytes, tally.parked, tally.resumed, tally.refused,
-             tally.occurrences, tally.rings, tally.sets, tally.digest, tally.records), flush=True)
-
-
-def cuts():
-    cut_group("one behind another", 2049, cut_together, range(23, 100, 21))
-    for m in LENGTHS[:-1]:
-        small = m < 1000
-        cut_group("cut at every byte", m, cut_in_turn,
-                  range(0, 100, 7) if small else range(1, 100, 17))
-        if small or m == 2049:
-            cut_group("each cut alone", m, cut_alone, range(2, 100, 23) if small else [41])
-        if small:
-            cut_group("lists of calls", m, cut_in_lists, range(0, 100, 3))
-            cut_group("past 32 bits", m, cut_late, range(4, 100, 19))
-    print("failures 0")
-
-
-PARTS = {"runs": runs, "cuts": cuts}
 
 if __name__ == "__main__":
-    for part in sys.argv[1:] or PARTS:
-        PARTS[part]()
+    main()

@@ -1,87 +1,102 @@
-// An answer, held against demand 3 by the plain search.
-use crate::bytes::long;
-use crate::compare::ring_number;
-use crate::starts::rung;
-use crate::starts::set_aside;
+// What becomes of each start of a stream, held against demand 3 by the plain search: a ring, a set that was set aside, and at the end every
+// occurrence. The stream is always the bytes so far; the answer is that to the last of them.
+use crate::bytes::at;
+use crate::bytes::part;
+use crate::bytes::plus;
+use crate::bytes::put;
+use crate::tally::ASIDE;
 use crate::tally::COMPARISONS;
+use crate::tally::FALSE_RINGS;
+use crate::tally::MISSED;
+use crate::tally::OCCURRENCES;
+use crate::tally::RINGS;
+use crate::tally::SETS;
 use crate::tally::add;
 use crate::tally::expect;
 use crate::tally::mix;
+use naive_search::collides;
+use naive_search::occurs;
+use naive_search::print_of;
 use naive_search::stages;
 use stage::Progression;
+use stage::STAGES;
 use walk::Answer;
 use walk::Ring;
 
-// A place of the answer's list of sets: a set if it counts, else nothing.
-fn account_set(
-    set: Progression,
-    counts: bool,
-    stream: &[u8],
-    pattern: &[u8],
-    key: u32,
-    marks: &mut [u8],
-    tally: &mut [u32],
-) {
-    if !counts {
-        expect(tally, set.first == 0 && set.step == 0 && set.many == 0);
+// The most sets of an answer.
+const MOST_SETS: u32 = STAGES as u32;
+
+// What a start is marked with once it is reported; 0 before.
+const RUNG: u8 = 1;
+
+const SET_ASIDE: u8 = 2;
+
+// A start is reported: it must be new.
+fn mark(marks: &mut [u8], start: usize, with: u8, tally: &mut [u32]) {
+    expect(tally, at(marks, start) == 0);
+    put(marks, start, with);
+}
+
+// A start rang. It must end at the last byte; a false one must have the pattern's fingerprint.
+fn rung(stream: &[u8], pattern: &[u8], key: u32, start: usize, tally: &mut [u32]) {
+    add(tally, RINGS, 1);
+    expect(tally, plus(start, pattern.len()) == stream.len());
+    if !occurs(stream, start, pattern) {
+        let block = part(stream, start, pattern.len());
+        add(tally, FALSE_RINGS, 1);
+        expect(tally, print_of(block, key) == print_of(pattern, key));
+    }
+}
+
+// One start of a set: it must be no whole pattern yet.
+fn put_aside(stream: &[u8], m: usize, start: usize, marks: &mut [u8], tally: &mut [u32]) {
+    add(tally, ASIDE, 1);
+    expect(tally, start < stream.len() && stream.len() < plus(start, m));
+    mark(marks, start, SET_ASIDE, tally);
+}
+
+// The starts of a set.
+fn put_all_aside(stream: &[u8], m: usize, set: Progression, marks: &mut [u8], tally: &mut [u32]) {
+    let mut start = set.first as usize;
+    let mut i: u32 = 0;
+    while i < set.many {
+        put_aside(stream, m, start, marks, tally);
+        start = plus(start, set.step as usize);
+        i = i + 1;
+    }
+}
+
+// A set; in the digest it is its three numbers.
+fn set_aside(stream: &[u8], m: usize, set: Progression, marks: &mut [u8], tally: &mut [u32]) {
+    mix(tally, set.first);
+    mix(tally, set.step as u64);
+    mix(tally, set.many as u64);
+    add(tally, SETS, 1);
+    put_all_aside(stream, m, set, marks, tally);
+}
+
+// The sets of an answer.
+fn set_all_aside(stream: &[u8], m: usize, answer: Answer, marks: &mut [u8], tally: &mut [u32]) {
+    let mut i: u32 = 0;
+    while i < answer.asides && i < MOST_SETS {
+        let set = answer.sets[i as usize];
+        set_aside(stream, m, set, marks, tally);
+        i = i + 1;
+    }
+}
+
+// The ring; in the digest it is 0, or one more than the start.
+fn hear(ring: Ring, stream: &[u8], pattern: &[u8], key: u32, marks: &mut [u8], tally: &mut [u32]) {
+    if let Ring::At(start) = ring {
+        mix(tally, std::num::wrapping_add_u64(start, 1));
+        mark(marks, start as usize, RUNG, tally);
+        rung(stream, pattern, key, start as usize, tally);
         return;
     }
-    set_aside(stream, pattern, key, set, marks, tally);
+    mix(tally, 0);
 }
 
-fn account_sets(
-    answer: Answer,
-    stream: &[u8],
-    pattern: &[u8],
-    key: u32,
-    marks: &mut [u8],
-    tally: &mut [u32],
-) {
-    let mut i: u32 = 0;
-    while i < 20 {
-        let set = answer.sets[i as usize];
-        account_set(set, i < answer.asides, stream, pattern, key, marks, tally);
-        i = i + 1;
-    }
-}
-
-fn account_ring(
-    ring: Ring,
-    stream: &[u8],
-    pattern: &[u8],
-    key: u32,
-    marks: &mut [u8],
-    tally: &mut [u32],
-) {
-    if let Ring::At(start) = ring {
-        rung(stream, pattern, key, start as usize, marks, tally);
-    }
-}
-
-// Takes a set into the digest if it counts.
-fn mix_set(set: Progression, counts: bool, tally: &mut [u32]) {
-    if counts {
-        mix(tally, set.first);
-        mix(tally, long(set.step));
-        mix(tally, long(set.many));
-    }
-}
-
-// Takes an answer into the digest.
-pub(crate) fn mix_answer(answer: Answer, tally: &mut [u32]) {
-    let ring = answer.ring;
-    mix(tally, long(answer.comparisons));
-    mix(tally, long(answer.asides));
-    mix(tally, ring_number(ring));
-    let mut i: u32 = 0;
-    while i < 20 {
-        let set = answer.sets[i as usize];
-        mix_set(set, i < answer.asides, tally);
-        i = i + 1;
-    }
-}
-
-// The answer to the last byte of the stream so far.
+// An answer: between 1 comparison and 1 more than there are stages; a ring; and sets, which need a collision.
 pub(crate) fn account(
     answer: Answer,
     stream: &[u8],
@@ -90,12 +105,36 @@ pub(crate) fn account(
     marks: &mut [u8],
     tally: &mut [u32],
 ) {
-    let comparisons = answer.comparisons;
-    let ceiling = (stages(pattern.len()) as u64) + 1;
     let ring = answer.ring;
-    mix_answer(answer, tally);
+    let comparisons = answer.comparisons;
+    let ceiling = stages(pattern.len()) as u64 + 1;
     expect(tally, 1 <= comparisons && comparisons as u64 <= ceiling);
     add(tally, COMPARISONS, comparisons);
-    account_ring(ring, stream, pattern, key, marks, tally);
-    account_sets(answer, stream, pattern, key, marks, tally);
+    mix(tally, comparisons as u64);
+    mix(tally, answer.asides as u64);
+    hear(ring, stream, pattern, key, marks, tally);
+    if answer.asides != 0 {
+        expect(tally, collides(stream, pattern, key));
+        set_all_aside(stream, pattern.len(), answer, marks, tally);
+    }
+}
+
+// After the stream: an occurrence at a start was reported.
+fn settle_start(stream: &[u8], pattern: &[u8], start: usize, mark: u8, tally: &mut [u32]) {
+    if occurs(stream, start, pattern) {
+        add(tally, OCCURRENCES, 1);
+        expect(tally, mark != 0);
+        if mark == SET_ASIDE {
+            add(tally, MISSED, 1);
+        }
+    }
+}
+
+// The same for every start.
+pub(crate) fn settle(stream: &[u8], pattern: &[u8], marks: &[u8], tally: &mut [u32]) {
+    let mut start: usize = 0;
+    while start < stream.len() {
+        settle_start(stream, pattern, start, at(marks, start), tally);
+        start = start + 1;
+    }
 }

@@ -5,25 +5,19 @@ pub(crate) fn at(bytes: &[u8], i: usize) -> u8 {
     if i < bytes.len() { bytes[i] } else { 0 }
 }
 
+// The last byte, 0 where there is none.
+pub(crate) fn last(bytes: &[u8]) -> u8 {
+    if 0 < bytes.len() {
+        return bytes[bytes.len() - 1];
+    }
+    0
+}
+
 // Stores a byte, nothing past the end.
 pub(crate) fn put(bytes: &mut [u8], i: usize, byte: u8) {
     if i < bytes.len() {
         bytes[i] = byte;
     }
-}
-
-// Stores a number in the four bytes from a place on, the lowest first.
-pub(crate) fn put_number(bytes: &mut [u8], i: usize, number: u32) {
-    put(bytes, i, (number % 256) as u8);
-    put(bytes, plus(i, 1), (number / 256 % 256) as u8);
-    put(bytes, plus(i, 2), (number / 65536 % 256) as u8);
-    put(bytes, plus(i, 3), (number / 16777216) as u8);
-}
-
-// The same in eight bytes.
-pub(crate) fn put_long(bytes: &mut [u8], i: usize, number: u64) {
-    put_number(bytes, i, (number % 4294967296) as u32);
-    put_number(bytes, plus(i, 4), (number / 4294967296) as u32);
 }
 
 // The first n bytes, all of them if there are fewer.
@@ -34,63 +28,15 @@ pub(crate) fn front(bytes: &[u8], n: usize) -> &[u8] {
     bytes
 }
 
-// The bytes behind the first n, all of them if there are fewer.
-pub(crate) fn behind(bytes: &[u8], n: usize) -> &[u8] {
-    if n <= bytes.len() {
-        return &bytes[n..];
+// So many bytes from a place on, none past the end.
+pub(crate) fn part(bytes: &[u8], from: usize, n: usize) -> &[u8] {
+    if from <= bytes.len() {
+        return front(&bytes[from..], n);
     }
-    bytes
+    &bytes[0..0]
 }
 
 // The sum of two places; no trial comes near the end of the numbers.
 pub(crate) fn plus(a: usize, b: usize) -> usize {
     std::num::wrapping_add_usize(a, b)
-}
-
-// The difference of two places, 0 where the second is larger.
-pub(crate) fn minus(a: usize, b: usize) -> usize {
-    if b <= a { a - b } else { 0 }
-}
-
-// A place as a number of 32 bits.
-pub(crate) fn short(n: usize) -> u32 {
-    (n % 4294967296) as u32
-}
-
-// A number with 64 bits.
-pub(crate) fn long(n: u32) -> u64 {
-    n as u64
-}
-
-// Copies n bytes from a place to a place.
-pub(crate) fn copy(from: &[u8], from_at: usize, bytes: &mut [u8], to_at: usize, n: usize) {
-    let mut i: usize = 0;
-    while i < n {
-        put(bytes, plus(to_at, i), at(from, plus(from_at, i)));
-        i = i + 1;
-    }
-}
-
-// Whether every byte is this one.
-pub(crate) fn all_are(bytes: &[u8], byte: u8) -> bool {
-    let mut i: usize = 0;
-    while i < bytes.len() {
-        if bytes[i] != byte {
-            return false;
-        }
-        i = i + 1;
-    }
-    true
-}
-
-// Whether the bytes from a place on differ from a block.
-pub(crate) fn differs(bytes: &[u8], from: usize, block: &[u8]) -> bool {
-    let mut i: usize = 0;
-    while i < block.len() {
-        if at(bytes, plus(from, i)) != block[i] {
-            return true;
-        }
-        i = i + 1;
-    }
-    false
 }
