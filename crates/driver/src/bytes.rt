@@ -159,10 +159,3 @@ pub(crate) fn tell_list(numbers: &[u64]) {
         i = i + 1;
     }
 }
-
-// What a call says that writes into a buffer: its verdict, a count and the buffer that it was lent.
-pub(crate) fn tell_written(verdict: Verdict, count: usize, lent: &[u8]) {
-    tell_verdict(verdict);
-    tell(count as u64);
-    tell_buffer(lent);
-}

@@ -1,15 +1,13 @@
-// The maker's calls, and records of cards. Each function takes its values from the front of the input, and hands back what is left.
-use crate::bytes::LENT;
+// The maker's calls, and cards from records. Each function takes its values from the front of the input, and hands back what is left.
 use crate::bytes::buffer;
 use crate::bytes::byte;
 use crate::bytes::from;
-use crate::bytes::lend;
 use crate::bytes::past_buffer;
 use crate::bytes::tell;
 use crate::bytes::tell_verdict;
 use crate::bytes::tell_whether;
-use crate::bytes::tell_written;
 use crate::bytes::word;
+use crate::calls_that_write;
 use crate::cards::BUILDER;
 use crate::cards::CARD;
 use crate::cards::builder;
@@ -18,10 +16,7 @@ use crate::cards::key;
 use crate::cards::tell_builder;
 use crate::cards::tell_card;
 use card_core::make;
-use card_core::write_card;
 use card_record::read_signature;
-use card_record::write_signature;
-use record::Written;
 use signature::Builder;
 use signature::Building;
 use signature::Finished;
@@ -41,12 +36,6 @@ fn tell_finished(done: Finished) {
     tell_card(done.signature);
 }
 
-// What writing a record says, with the buffer that was lent.
-pub(crate) fn tell_record(written: Written, lent: &[u8]) {
-    let verdict = written.verdict;
-    tell_written(verdict, written.used, lent);
-}
-
 fn begin(values: &[u8]) -> &[u8] {
     tell_building(Builder::begin(word(values, 0), key(values, 1)));
     from(values, 2)
@@ -60,15 +49,6 @@ fn push(values: &[u8]) -> &[u8] {
 fn finish(values: &[u8]) -> &[u8] {
     tell_finished(builder(values).finish());
     from(values, BUILDER)
-}
-
-fn write(values: &[u8]) -> &[u8] {
-    let mut room = [0u8; LENT];
-    let rest = from(values, CARD);
-    let lent = lend(rest, &mut room);
-    let written = write_signature(card(values), lent);
-    tell_record(written, lent);
-    past_buffer(rest)
 }
 
 fn read(values: &[u8]) -> &[u8] {
@@ -86,16 +66,6 @@ fn make_whole(values: &[u8]) -> &[u8] {
     from(rest, 1)
 }
 
-fn make_record(values: &[u8]) -> &[u8] {
-    let mut room = [0u8; LENT];
-    let keyed = past_buffer(values);
-    let rest = from(keyed, 1);
-    let lent = lend(rest, &mut room);
-    let written = write_card(buffer(values), key(keyed, 0), lent);
-    tell_record(written, lent);
-    past_buffer(rest)
-}
-
 fn builder_fits(values: &[u8]) -> &[u8] {
     tell_whether(builder(values).fits());
     from(values, BUILDER)
@@ -111,10 +81,9 @@ pub(crate) fn call(op: u64, values: &[u8]) -> &[u8] {
         1 => begin(values),
         2 => push(values),
         3 => finish(values),
-        4 => write(values),
+        4 | 7 => calls_that_write::call(op, values),
         5 => read(values),
         6 => make_whole(values),
-        7 => make_record(values),
         8 => builder_fits(values),
         9 => card_fits(values),
         _ => &values[0..0],

@@ -7,6 +7,7 @@ use crate::bytes::tell;
 use crate::bytes::tell_whether;
 use crate::cards::key;
 use crate::cards::print;
+use crate::cards::tell_print;
 use crate::watches::STAGE;
 use crate::watches::mark;
 use crate::watches::stage;
@@ -15,10 +16,6 @@ use crate::watches::tell_stage;
 use fingerprint::Fingerprint;
 use stage::Aside;
 use stage::Progression;
-
-fn tell_print(print: Fingerprint) {
-    tell(print.number() as u64);
-}
 
 fn push(values: &[u8]) -> &[u8] {
     tell_print(print(values, 0).push(key(values, 1), byte(values, 2)));

@@ -1,8 +1,6 @@
-// What the programs over MIDI files and for printing are made of. Each function takes its values from the front
-// of the input, and hands back what is left.
+// MIDI files, and the printing program's steps. Each function takes its values from the front of the input, and hands back what is left.
 use crate::bytes::LENT;
 use crate::bytes::buffer;
-use crate::bytes::byte;
 use crate::bytes::from;
 use crate::bytes::lend;
 use crate::bytes::number;
@@ -11,29 +9,13 @@ use crate::bytes::tell;
 use crate::bytes::tell_all;
 use crate::bytes::tell_buffer;
 use crate::bytes::tell_verdict;
-use crate::bytes::tell_written;
-use crate::calls_of_watches::AND_ONE;
+use crate::calls_that_write;
+use crate::watches::AND_ONE;
 use crate::watches::WATCH;
 use crate::watches::tell_watch;
 use crate::watches::watch;
-use midi_file::Bells;
 use report_core::Fed;
 use report_core::Progress;
-
-fn midi(values: &[u8]) -> &[u8] {
-    let mut room = [0u8; LENT];
-    let file = from(values, 2);
-    let rest = past_buffer(file);
-    let lent = lend(rest, &mut room);
-    let bells = Bells {
-        lowest: byte(values, 0),
-        highest: byte(values, 1),
-    };
-    let reading = midi_file::read(buffer(file), bells, lent);
-    let verdict = reading.verdict;
-    tell_written(verdict, reading.count, lent);
-    past_buffer(rest)
-}
 
 fn begin(values: &[u8]) -> &[u8] {
     let begun = report_core::begin(buffer(values));
@@ -72,7 +54,7 @@ fn feed(values: &[u8]) -> &[u8] {
 
 pub(crate) fn call(op: u64, values: &[u8]) -> &[u8] {
     match op {
-        48 => midi(values),
+        48 => calls_that_write::call(op, values),
         56 => begin(values),
         57 => feed(values),
         _ => &values[0..0],

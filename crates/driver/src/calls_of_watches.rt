@@ -1,10 +1,8 @@
-// A watch's calls, and its records. Each function takes its values from the front of the input, and hands back what is left.
-use crate::bytes::LENT;
+// A watch's calls, and watches from records. Each function takes its values from the front of the input, and hands back what is left.
 use crate::bytes::LIST;
 use crate::bytes::buffer;
 use crate::bytes::byte;
 use crate::bytes::from;
-use crate::bytes::lend;
 use crate::bytes::lend_list;
 use crate::bytes::number;
 use crate::bytes::past_buffer;
@@ -14,10 +12,11 @@ use crate::bytes::tell_all;
 use crate::bytes::tell_list;
 use crate::bytes::tell_verdict;
 use crate::bytes::tell_whether;
-use crate::calls_of_cards::tell_record;
+use crate::calls_that_write;
 use crate::cards::CARD;
 use crate::cards::card;
 use crate::cards::key;
+use crate::watches::AND_ONE;
 use crate::watches::WATCH;
 use crate::watches::tell_answer;
 use crate::watches::tell_stages;
@@ -32,12 +31,8 @@ use matcher::Matcher;
 use matcher::Stroke;
 use matcher::Turn;
 use powers::Powers;
-use record::Written;
 use scanner::Ended;
 use signature::MAX_LENGTH;
-
-// How many numbers a watch and one number more have.
-pub(crate) const AND_ONE: u32 = WATCH + 1;
 
 fn start(values: &[u8]) -> &[u8] {
     let started = Matcher::start(card(values));
@@ -76,26 +71,6 @@ fn strokes(values: &[u8]) -> &[u8] {
         w = stroke.matcher;
         i = i + 1;
     }
-    past_buffer(rest)
-}
-
-// The record that the call's number asks for.
-fn parked(op: u64, watch: Matcher, buf: &mut [u8], used: usize) -> Written {
-    match op {
-        20 => save(watch, buf),
-        21 => save_behind(watch, buf, used),
-        22 => save_narrow(watch, buf),
-        _ => save_narrow_behind(watch, buf, used),
-    }
-}
-
-// Parks a watch in the buffer behind so many numbers; where it goes behind a used part, that part's length stands behind the watch.
-fn park(op: u64, values: &[u8], before: u32) -> &[u8] {
-    let mut room = [0u8; LENT];
-    let rest = from(values, before);
-    let lent = lend(rest, &mut room);
-    let written = parked(op, watch(values), lent, number(values, WATCH) as usize);
-    tell_record(written, lent);
     past_buffer(rest)
 }
 
@@ -162,8 +137,7 @@ pub(crate) fn call(op: u64, values: &[u8]) -> &[u8] {
         17 => stroke(values),
         18 => stroke_in_place(values),
         19 => strokes(values),
-        20 | 22 => park(op, values, WATCH),
-        21 | 23 => park(op, values, AND_ONE),
+        20..=23 => calls_that_write::call(op, values),
         24 => resume(values),
         25 => scan(values),
         26 => watch_fits(values),

@@ -1,5 +1,6 @@
 // Cards and half-made cards as numbers.
 use crate::bytes::from;
+use crate::bytes::tell;
 use crate::bytes::tell_all;
 use crate::bytes::word;
 use fingerprint::Fingerprint;
@@ -34,15 +35,17 @@ fn prints(values: &[u8]) -> [Fingerprint; PLACES] {
     prints
 }
 
+pub(crate) fn tell_print(print: Fingerprint) {
+    tell(print.number() as u64);
+}
+
 fn tell_prints(prints: [Fingerprint; PLACES]) {
-    let mut numbers = [0u64; PLACES];
     let mut i: u32 = 0;
     while i < COUNT {
         let print = prints[i as usize];
-        numbers[i as usize] = print.number() as u64;
+        tell_print(print);
         i = i + 1;
     }
-    tell_all(&numbers);
 }
 
 pub(crate) fn card(values: &[u8]) -> Signature {

@@ -4,9 +4,10 @@ use libc::STDIN_FILENO;
 
 mod bytes; // bytes.rt: numbers, buffers and lists at places, and answers
 mod cards; // cards.rt: cards and half-made cards
-mod calls_of_cards; // calls_of_cards.rt: the maker's calls, and records of cards
+mod calls_of_cards; // calls_of_cards.rt: the maker's calls
 mod watches; // watches.rt: stages, watches and answers to a byte
-mod calls_of_watches; // calls_of_watches.rt: strokes, scans, parkings and resumptions
+mod calls_of_watches; // calls_of_watches.rt: strokes, scans and resumptions
+mod calls_that_write; // calls_that_write.rt: records and MIDI files, into a buffer that is lent
 mod racks; // racks.rt: racks and their calls
 mod calls_of_programs; // calls_of_programs.rt: MIDI files, and the printing program's steps
 mod calls_of_parts; // calls_of_parts.rt: fingerprints and single stages

@@ -29,6 +29,9 @@ pub(crate) const WATCH: u32 = CARD + MARK + STAGES_OF;
 
 const BEFORE_STAGES: u32 = CARD + MARK;
 
+// How many numbers a watch and one number more have.
+pub(crate) const AND_ONE: u32 = WATCH + 1;
+
 pub(crate) fn mark(values: &[u8]) -> Mark {
     Mark {
         at: number(values, 0),

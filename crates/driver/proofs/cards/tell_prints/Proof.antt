@@ -1,16 +1,14 @@
 -- `driver::cards::tell_prints` is safe and ends.
 use borrow.Author.Needs.{needs}
 use Prim.Native.Nat.{_-_}
-use mathlib.Core.Path.{_≡_}
-use lib.ListN.{length}
 use Rattle.driver.proofs.cards.tell_prints.Statement.{statement}
 use Rattle.driver.proofs.cards.tell_prints.Tie as tie
 
 abbrev Inv-loop : tie.InvT-loop
-Inv-loop prints numbers₀ i₀ numbers i = length numbers ≡ 21
+Inv-loop prints i₀ i = Unit {0}
 
 abbrev μ-loop : tie.MeasureT-loop
-μ-loop prints numbers₀ i₀ numbers i = 21 - i
+μ-loop prints i₀ i = 21 - i
 
 pub tell-prints-spec : {M : Type 1} → statement M
 tell-prints-spec =
@@ -26,10 +24,4 @@ tell-prints-spec =
     (λ c. search needs)
     (λ c. search needs)
     (λ c. search needs)
-    (λ c. search needs)
-    (λ c. search needs)
-    (λ c. search needs)
-    (λ c. search needs)
-    (λ c. search needs)
-    (λ c κs. search needs)
     (λ c. search needs))
