@@ -180,8 +180,8 @@ def passes_and_cuts(n):
     return (2 + n, 2 * n) if n <= SHORT else (2, n)
 
 
-def line(i, case):
-    """The line of case number i. Counts are those of all passes, each of which must answer alike."""
+def line(case):
+    """The line of a case. Counts are those of all passes, each of which must answer alike."""
     ladder = Ladder(make_card(case.pattern, case.key))
     answers = [ladder.take(byte) for byte in case.stream]
     faults = search.faults(case.pattern, case.key, case.stream,
@@ -194,17 +194,17 @@ def line(i, case):
     passes, cuts = passes_and_cuts(len(case.stream))
     counts = [len(found), len(aside.intersection(found)), len(rung), len(set(rung).difference(found)), len(sets),
               sum(many for _, _, many in sets), sum(comparisons for _, _, comparisons in answers)]
-    numbers = [i, len(case.pattern), len(case.stream), passes, cuts, *(passes * count for count in counts),
+    numbers = [len(case.pattern), len(case.stream), passes, cuts, *(passes * count for count in counts),
                digest_of(answers), 0]
     return b" ".join(b"%d" % n for n in numbers) + b"\n"
 
 
-COLUMNS = b"case pattern stream passes cuts occurrences missed rings false sets aside comparisons digest failures\n"
+COLUMNS = b"pattern stream passes cuts occurrences missed rings false sets aside comparisons digest failures\n"
 
 
 def lines(cases, end=b"failures 0\n"):
     """What the program must write of these cases."""
-    return COLUMNS + b"".join(line(i, case) for i, case in enumerate(cases, 1)) + end
+    return COLUMNS + b"".join(map(line, cases)) + end
 
 
 # ---- Runs for differential/gate --------------------------------------------------

@@ -31,12 +31,6 @@ const RUNG: u8 = 1;
 
 const SET_ASIDE: u8 = 2;
 
-// A start is reported: it must be new.
-fn mark(marks: &mut [u8], start: usize, with: u8, tally: &mut [u32]) {
-    expect(tally, at(marks, start) == 0);
-    put(marks, start, with);
-}
-
 // A start rang. It must end at the last byte; a false one must have the pattern's fingerprint.
 fn rung(stream: &[u8], pattern: &[u8], key: u32, start: usize, tally: &mut [u32]) {
     add(tally, RINGS, 1);
@@ -48,11 +42,12 @@ fn rung(stream: &[u8], pattern: &[u8], key: u32, start: usize, tally: &mut [u32]
     }
 }
 
-// One start of a set: it must be no whole pattern yet.
+// One start of a set: it must be new, and no whole pattern yet.
 fn put_aside(stream: &[u8], m: usize, start: usize, marks: &mut [u8], tally: &mut [u32]) {
     add(tally, ASIDE, 1);
     expect(tally, start < stream.len() && stream.len() < plus(start, m));
-    mark(marks, start, SET_ASIDE, tally);
+    expect(tally, at(marks, start) == 0);
+    put(marks, start, SET_ASIDE);
 }
 
 // The starts of a set.
@@ -66,37 +61,53 @@ fn put_all_aside(stream: &[u8], m: usize, set: Progression, marks: &mut [u8], ta
     }
 }
 
-// A set; in the digest it is its three numbers.
-fn set_aside(stream: &[u8], m: usize, set: Progression, marks: &mut [u8], tally: &mut [u32]) {
+// A set, which needs a collision; in the digest it is its three numbers.
+fn set_aside(
+    stream: &[u8],
+    pattern: &[u8],
+    key: u32,
+    set: Progression,
+    marks: &mut [u8],
+    tally: &mut [u32],
+) {
+    add(tally, SETS, 1);
     mix(tally, set.first);
     mix(tally, set.step as u64);
     mix(tally, set.many as u64);
-    add(tally, SETS, 1);
-    put_all_aside(stream, m, set, marks, tally);
+    expect(tally, collides(stream, pattern, key));
+    put_all_aside(stream, pattern.len(), set, marks, tally);
 }
 
 // The sets of an answer.
-fn set_all_aside(stream: &[u8], m: usize, answer: Answer, marks: &mut [u8], tally: &mut [u32]) {
+fn set_all_aside(
+    stream: &[u8],
+    pattern: &[u8],
+    key: u32,
+    answer: Answer,
+    marks: &mut [u8],
+    tally: &mut [u32],
+) {
     let mut i: u32 = 0;
     while i < answer.asides && i < MOST_SETS {
         let set = answer.sets[i as usize];
-        set_aside(stream, m, set, marks, tally);
+        set_aside(stream, pattern, key, set, marks, tally);
         i = i + 1;
     }
 }
 
-// The ring; in the digest it is 0, or one more than the start.
+// The ring, whose start must be new; in the digest it is 0, or one more than the start.
 fn hear(ring: Ring, stream: &[u8], pattern: &[u8], key: u32, marks: &mut [u8], tally: &mut [u32]) {
     if let Ring::At(start) = ring {
         mix(tally, std::num::wrapping_add_u64(start, 1));
-        mark(marks, start as usize, RUNG, tally);
+        expect(tally, at(marks, start as usize) == 0);
+        put(marks, start as usize, RUNG);
         rung(stream, pattern, key, start as usize, tally);
         return;
     }
     mix(tally, 0);
 }
 
-// An answer: between 1 comparison and 1 more than there are stages; a ring; and sets, which need a collision.
+// An answer: its comparisons, 1 and at most one more for each stage; its ring; and its sets.
 pub(crate) fn account(
     answer: Answer,
     stream: &[u8],
@@ -107,16 +118,13 @@ pub(crate) fn account(
 ) {
     let ring = answer.ring;
     let comparisons = answer.comparisons;
-    let ceiling = stages(pattern.len()) as u64 + 1;
-    expect(tally, 1 <= comparisons && comparisons as u64 <= ceiling);
+    let taken_off = std::num::wrapping_sub_u32(comparisons, 1);
+    expect(tally, taken_off <= stages(pattern.len()));
     add(tally, COMPARISONS, comparisons);
     mix(tally, comparisons as u64);
     mix(tally, answer.asides as u64);
     hear(ring, stream, pattern, key, marks, tally);
-    if answer.asides != 0 {
-        expect(tally, collides(stream, pattern, key));
-        set_all_aside(stream, pattern.len(), answer, marks, tally);
-    }
+    set_all_aside(stream, pattern, key, answer, marks, tally);
 }
 
 // After the stream: an occurrence at a start was reported.

@@ -5,14 +5,6 @@ pub(crate) fn at(bytes: &[u8], i: usize) -> u8 {
     if i < bytes.len() { bytes[i] } else { 0 }
 }
 
-// The last byte, 0 where there is none.
-pub(crate) fn last(bytes: &[u8]) -> u8 {
-    if 0 < bytes.len() {
-        return bytes[bytes.len() - 1];
-    }
-    0
-}
-
 // Stores a byte, nothing past the end.
 pub(crate) fn put(bytes: &mut [u8], i: usize, byte: u8) {
     if i < bytes.len() {

@@ -46,7 +46,7 @@ fn end_of(input: &[u8], at: usize) -> usize {
 }
 
 // Tries the case at a place, prints its line and hands back the failures.
-fn case(input: &[u8], at: usize, number: u32) -> u32 {
+fn case(input: &[u8], at: usize) -> u32 {
     let mut tally = [0u32; PLACES];
     let key = (word(input, at) % 4294967296) as u32;
     let first = plus(at, HEAD);
@@ -54,8 +54,7 @@ fn case(input: &[u8], at: usize, number: u32) -> u32 {
     let behind = plus(first, pattern.len());
     let stream = part(input, behind, word(input, plus(at, 8)) as usize);
     passes::all(pattern, stream, key, &mut tally);
-    item(b"", number as u64);
-    item(b" ", pattern.len() as u64);
+    item(b"", pattern.len() as u64);
     item(b" ", stream.len() as u64);
     say(&tally);
     count(&tally, FAILURES)
@@ -64,7 +63,6 @@ fn case(input: &[u8], at: usize, number: u32) -> u32 {
 // Case after case; hands back the failures. A case that is cut short or too long is one, and the last.
 fn run(input: &[u8]) -> u32 {
     let mut failures: u32 = 0;
-    let mut number: u32 = 1;
     let mut at: usize = 0;
     while at < input.len() {
         let next = end_of(input, at);
@@ -72,8 +70,7 @@ fn run(input: &[u8]) -> u32 {
             io::write_all(1, b"a case is cut short or too long\n");
             return std::num::wrapping_add_u32(failures, 1);
         }
-        failures = std::num::wrapping_add_u32(failures, case(input, at, number));
-        number = std::num::wrapping_add_u32(number, 1);
+        failures = std::num::wrapping_add_u32(failures, case(input, at));
         at = next;
     }
     failures
@@ -83,7 +80,7 @@ fn run(input: &[u8]) -> u32 {
 fn serve(room: &mut [u8; ROOM]) {
     io::write_all(
         1,
-        b"case pattern stream passes cuts occurrences missed rings false sets aside comparisons digest failures\n",
+        b"pattern stream passes cuts occurrences missed rings false sets aside comparisons digest failures\n",
     );
     let got = descriptor::fill(STDIN_FILENO, room);
     item(b"failures ", run(front(room, got.count)) as u64);

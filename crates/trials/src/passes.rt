@@ -5,7 +5,6 @@ use crate::account::account;
 use crate::account::settle;
 use crate::bytes::at;
 use crate::bytes::front;
-use crate::bytes::last;
 use crate::bytes::plus;
 use crate::tally::CUTS;
 use crate::tally::DIGEST;
@@ -44,18 +43,6 @@ const SHORT: usize = 64;
 const NEVER: usize = 0;
 
 const EVERY: usize = 1;
-
-// How many rules there are for a stream of n bytes.
-fn rules(n: usize) -> usize {
-    if n <= SHORT {
-        return plus(n, 2);
-    }
-    2
-}
-
-fn accepted(verdict: Verdict) -> bool {
-    verdict.number() == 0
-}
 
 // The length of the prefix behind one of `size` bytes, for a pattern of m bytes: twice as much, at most the whole; 0 behind the last.
 fn next_size(size: usize, m: usize) -> usize {
@@ -119,27 +106,36 @@ fn comes_to(verdict: Verdict, bytes: usize, size: u64) -> bool {
     verdict.number() == 0 && bytes as u64 == size
 }
 
-// The watch before byte number t, cut if the rule says so: what is resumed under the card is parked again in the same bytes.
-fn cut(w: Matcher, card: Signature, rule: usize, t: usize, m: usize, tally: &mut [u32]) -> Matcher {
+// Whether a watch is parked in the same record as the first, all bytes behind it being left alone.
+fn is_parked_so(w: Matcher, narrow: bool, size: u64, first: &[u8]) -> bool {
+    let mut second = [SECOND; BUFFER];
+    let parked = park(w, narrow, &mut second);
+    let verdict = parked.verdict;
+    comes_to(verdict, parked.used, size) && hold_one_record(first, &second, size)
+}
+
+// A cut: what is resumed from a record is parked again in the same record.
+fn cut(w: Matcher, narrow: bool, size: u64, tally: &mut [u32]) -> Matcher {
+    let mut first = [FIRST; BUFFER];
+    let parked = park(w, narrow, &mut first);
+    let accepted = parked.verdict;
+    expect(tally, comes_to(accepted, parked.used, size));
+    let restored = restore(w.signature, &first);
+    let resumed = restored.matcher;
+    let verdict = restored.verdict;
+    expect(tally, comes_to(verdict, restored.taken, size));
+    expect(tally, is_parked_so(resumed, narrow, size, &first));
+    resumed
+}
+
+// The watch before byte number t, cut if the rule says so.
+fn before(w: Matcher, rule: usize, t: usize, m: usize, tally: &mut [u32]) -> Matcher {
     if rule != EVERY && rule != plus(t, EVERY) {
         return w;
     }
     let narrow = t % 2 == 0;
-    let size = record_size(m, narrow);
-    let mut buffer = [FIRST; BUFFER];
-    let mut again = [SECOND; BUFFER];
-    let parked = park(w, narrow, &mut buffer);
-    let restored = restore(card, &buffer);
-    let resumed = restored.matcher;
-    let rewritten = park(resumed, narrow, &mut again);
-    let first = parked.verdict;
-    let verdict = restored.verdict;
-    let second = rewritten.verdict;
-    let written = comes_to(first, parked.used, size) && comes_to(second, rewritten.used, size);
-    expect(tally, written && comes_to(verdict, restored.taken, size));
-    expect(tally, hold_one_record(&buffer, &again, size));
     add(tally, CUTS, 1);
-    resumed
+    cut(w, narrow, record_size(m, narrow), tally)
 }
 
 // A stroke: to the core where the stream is uncut, else through the thin entry.
@@ -150,21 +146,21 @@ fn strike(w: Matcher, byte: u8, rule: usize) -> Stroke {
     in_place::stroke_local(w, byte)
 }
 
-// The last byte of the stream so far: the cut before it, the stroke and its answer.
+// A byte, the last of the stream so far: the cut before it, the stroke and its answer.
 fn turn(
     w: Matcher,
-    card: Signature,
     rule: usize,
+    byte: u8,
     stream: &[u8],
     pattern: &[u8],
     key: u32,
     marks: &mut [u8],
     tally: &mut [u32],
 ) -> Matcher {
-    let own = cut(w, card, rule, stream.len(), pattern.len(), tally);
-    let struck = strike(own, last(stream), rule);
+    let own = before(w, rule, stream.len(), pattern.len(), tally);
+    let struck = strike(own, byte, rule);
     let verdict = struck.verdict;
-    expect(tally, accepted(verdict));
+    expect(tally, verdict.number() == 0);
     account(struck.answer, stream, pattern, key, marks, tally);
     struck.matcher
 }
@@ -181,12 +177,13 @@ fn walk(
 ) {
     let started = Matcher::start(card);
     let verdict = started.verdict;
-    expect(tally, accepted(verdict));
+    expect(tally, verdict.number() == 0);
     let mut w = started.matcher;
     let mut t: usize = 0;
     while t < stream.len() {
+        let byte = stream[t];
         t = t + 1;
-        w = turn(w, card, rule, front(stream, t), pattern, key, marks, tally);
+        w = turn(w, rule, byte, front(stream, t), pattern, key, marks, tally);
     }
 }
 
@@ -213,8 +210,16 @@ pub(crate) fn all(pattern: &[u8], stream: &[u8], key: u32, tally: &mut [u32]) {
     let made = card_core::make(pattern, Key::new(key));
     let verdict = made.verdict;
     let card = made.signature;
-    expect(tally, accepted(verdict) && is_card_of(card, pattern, key));
-    let end = rules(stream.len());
+    expect(
+        tally,
+        verdict.number() == 0 && is_card_of(card, pattern, key),
+    );
+    let alone = if stream.len() <= SHORT {
+        stream.len()
+    } else {
+        0
+    };
+    let end = plus(alone, 2);
     let mut rule: usize = 0;
     while rule < end {
         pass(card, rule, stream, pattern, key, tally);

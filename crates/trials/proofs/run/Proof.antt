@@ -6,10 +6,10 @@ use Rattle.trials.proofs.run.Statement.{statement}
 use Rattle.trials.proofs.run.Tie as tie
 
 abbrev Inv-loop : tie.InvT-loop
-Inv-loop input failures₀ number₀ at₀ t6 failures number at = Unit {0}
+Inv-loop input failures₀ at₀ t5 failures at = Unit {0}
 
 abbrev μ-loop : tie.MeasureT-loop
-μ-loop input failures₀ number₀ at₀ t6 failures number at = length input - at
+μ-loop input failures₀ at₀ t5 failures at = length input - at
 
 pub run-spec : {M : Type 1} → statement M
 run-spec =
@@ -23,7 +23,6 @@ run-spec =
     (λ c κs. search needs)
     (λ c κs. search needs)
     (λ c. search needs)
-    (λ c κs. search needs)
     (λ c κs. search needs)
     (λ c κs. search needs)
     (λ c. search needs)

@@ -7,10 +7,10 @@ use Rattle.trials.proofs.account.set_all_aside.Statement.{statement}
 use Rattle.trials.proofs.account.set_all_aside.Tie as tie
 
 abbrev Inv-loop : tie.InvT-loop
-Inv-loop stream m marks₀ tally₀ answer i₀ marks tally i = (length marks ≡ length marks₀) × (length tally ≡ length tally₀)
+Inv-loop stream pattern key marks₀ tally₀ answer i₀ marks tally i = (length marks ≡ length marks₀) × (length tally ≡ length tally₀)
 
 abbrev μ-loop : tie.MeasureT-loop
-μ-loop stream m marks₀ tally₀ answer i₀ marks tally i = answer .asides - i
+μ-loop stream pattern key marks₀ tally₀ answer i₀ marks tally i = answer .asides - i
 
 pub set-all-aside-spec : {M : Type 1} → statement M
 set-all-aside-spec =

@@ -7,10 +7,10 @@ use Rattle.trials.proofs.passes.all.Statement.{statement}
 use Rattle.trials.proofs.passes.all.Tie as tie
 
 abbrev Inv-loop : tie.InvT-loop
-Inv-loop pattern stream key tally₀ card end rule₀ tally rule = length tally ≡ length tally₀
+Inv-loop pattern stream key tally₀ card alone end rule₀ tally rule = length tally ≡ length tally₀
 
 abbrev μ-loop : tie.MeasureT-loop
-μ-loop pattern stream key tally₀ card end rule₀ tally rule = end - rule
+μ-loop pattern stream key tally₀ card alone end rule₀ tally rule = end - rule
 
 pub all-spec : {M : Type 1} → statement M
 all-spec =

@@ -7,10 +7,10 @@ use Rattle.trials.proofs.passes.walk.Statement.{statement}
 use Rattle.trials.proofs.passes.walk.Tie as tie
 
 abbrev Inv-loop : tie.InvT-loop
-Inv-loop card rule stream pattern key marks₀ tally₀ w₀ t₀ marks tally w t = (length marks ≡ length marks₀) × (length tally ≡ length tally₀)
+Inv-loop rule stream pattern key marks₀ tally₀ w₀ t₀ marks tally w t = (length marks ≡ length marks₀) × (length tally ≡ length tally₀)
 
 abbrev μ-loop : tie.MeasureT-loop
-μ-loop card rule stream pattern key marks₀ tally₀ w₀ t₀ marks tally w t = length stream - t
+μ-loop rule stream pattern key marks₀ tally₀ w₀ t₀ marks tally w t = length stream - t
 
 pub walk-spec : {M : Type 1} → statement M
 walk-spec =
@@ -21,6 +21,7 @@ walk-spec =
     (λ c κs. search needs)
     (λ c κs. search needs)
     (λ c κs. search needs)
+    (λ c. search needs)
     (λ c. search needs)
     (λ c. search needs)
     (λ c κs. search needs)
