@@ -164,13 +164,18 @@ def read(data):
 
 # ---- What must be printed --------------------------------------------------------
 
+def mixed(digest, value):
+    """A digest with one number more."""
+    return (digest * 65599 + value) % 4294967291
+
+
 def digest_of(answers):
     """The numbers of all answers, mixed in their order."""
     digest = 0
     for rung, sets, comparisons in answers:
         # a ring is 0, or one more than its start
         for value in (comparisons, len(sets), 0 if rung is None else rung + 1, *(n for one in sets for n in one)):
-            digest = (digest * 65599 + value) % 4294967291
+            digest = mixed(digest, value)
     return digest
 
 
