@@ -1,6 +1,8 @@
 // Makes a card (document 01, "Card" and "Records"): the passage comes from standard input, the key is the one argument, and the card record goes
 // to standard output. What is refused is said on standard error, by its number; so are a read that fails, and then no card is written, and a card
 // that cannot be written.
+#![tactic(auto)]
+
 ghost use Rattle.std.specs.Prelude.{◌≡◌, length};
 ghost use Rattle.card_core.specs.Card.{overlong};
 ghost use Rattle.card.specs.Outcome.{Carded};
@@ -12,7 +14,7 @@ use libc::{STDERR_FILENO, STDIN_FILENO, STDOUT_FILENO};
 use refusal::Verdict;
 
 // The card was written; or it is refused; or a read failed; or the write did.
-#[derive(Drop)]
+#[derive(Clone, Copy)]
 enum Status {
     Written,
     Refused,
@@ -21,7 +23,7 @@ enum Status {
 }
 
 // How many bytes of the passage were read, how many of the card were written, what was refused, if something was, and how it ended.
-#[derive(Drop)]
+#[derive(Clone, Copy)]
 struct Outcome {
     read: usize,
     written: usize,

@@ -1,4 +1,6 @@
 // A card made from a whole passage (document 01, "Card"), its record, and the key as a program's argument.
+#![tactic(auto)]
+
 ghost use Rattle.std.specs.Prelude.{◌≡◌, min};
 ghost use Rattle.refusal.specs.Number.{number};
 ghost use Rattle.card_core.specs.Card.{overlong, make_refusal, made_signature, card_refusal, card_used, card_buffer};

@@ -1,4 +1,6 @@
 // The record of a card (document 01, "Records"): written into a lent buffer, and read back.
+#![tactic(auto)]
+
 ghost use Rattle.std.specs.Prelude.{◌≡◌, ◌+◌, ◌*◌, ◌≤◌, ◌<◌, length};
 ghost use Rattle.ladder.specs.Prefix.{levels};
 ghost use Rattle.lists.specs.Lists.{tabulate};
@@ -24,7 +26,7 @@ pub const SIGNATURE_KIND: u64 = 3;
 pub const SIGNATURE_LEAST: u64 = 10;
 
 // What reading a card hands back: the card, and the bytes taken; all 0 where the call is refused.
-#[derive(Drop)]
+#[derive(Clone, Copy)]
 pub struct SignatureRead {
     pub verdict: Verdict,
     pub signature: Signature,

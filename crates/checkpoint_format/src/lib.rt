@@ -1,4 +1,6 @@
 // The two records of a parked watch (document 01, "Records"; document 02, A.5): their kinds, widths, sizes and places.
+#![tactic(auto)]
+
 ghost use Rattle.std.specs.Prelude.{◌≡◌, ◌+◌};
 ghost use Rattle.fields.specs.Calls.{width_of};
 ghost use Rattle.record.specs.Layout.{length_width};
@@ -10,7 +12,7 @@ use fields::Width;
 use record::{PRINT_AT, PRINT_SIZE, WORD};
 
 // The two records of a parked watch: a wide one has places of the stream in 8 bytes, a narrow one in 4.
-#[derive(Drop)]
+#[derive(Clone, Copy)]
 pub enum Format {
     Narrow,
     Wide,

@@ -1,4 +1,6 @@
 // Resuming (document 01, "Records"): a watch is restored from a checkpoint, in either record, under its card.
+#![tactic(auto)]
+
 ghost use Rattle.std.specs.Prelude.{◌≡◌, ◌+◌, ◌≤◌, ◌<◌};
 ghost use Rattle.ladder.specs.Prefix.{levels};
 ghost use Rattle.lists.specs.Lists.{tabulate};
@@ -23,7 +25,7 @@ use signature::{Signature, levels};
 use stage::{Gap, Mark, STAGES, Stage};
 
 // What restoring hands back: the matcher, and the bytes taken; nothing where the call is refused.
-#[derive(Drop)]
+#[derive(Clone, Copy)]
 pub struct Restored {
     pub verdict: Verdict,
     pub matcher: Matcher,

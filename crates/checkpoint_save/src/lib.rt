@@ -1,4 +1,6 @@
 // Parking (document 01, "Records"): a watch is saved into a lent buffer, as a checkpoint in either record.
+#![tactic(auto)]
+
 ghost use Rattle.std.specs.Prelude.{◌≡◌, ◌+◌, ◌*◌, ◌≤◌, min, length};
 ghost use Rattle.ladder.specs.Prefix.{levels};
 ghost use Rattle.refusal.specs.Number.{refusal_number, number};

@@ -1,4 +1,6 @@
 // Decimal numbers: read from the digits of a text, and put as digits into a lent buffer.
+#![tactic(auto)]
+
 ghost use Rattle.std.specs.Prelude.{◌≡◌, length};
 ghost use Rattle.decimal.specs.Decimal.{decimal, parsed, place_behind, buffer_with};
 
@@ -6,7 +8,7 @@ ghost use Rattle.decimal.specs.Decimal.{decimal, parsed, place_behind, buffer_wi
 const MOST_READ: usize = 10;
 
 // What a text says: a number, or none.
-#[derive(Drop)]
+#[derive(Clone, Copy)]
 pub enum Parsed {
     Bad,
     Number(u64),

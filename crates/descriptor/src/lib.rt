@@ -1,17 +1,19 @@
 // Reading from a descriptor, with a read that failed told apart from the end of the input, and writing to one. No contract can say which bytes a
 // read brings, or what a write does: for the input and output of `report` and `card` these functions alone call the toolchain's own
 // (docs/DECISIONS.md, "Read and write").
+#![tactic(auto)]
+
 ghost use Rattle.descriptor.specs.Reads.{Reads, ReadOnce, Writes};
 
 // How many bytes were read, to the buffer's front, and whether no read failed.
-#[derive(Drop)]
+#[derive(Clone, Copy)]
 pub struct Got {
     pub count: usize,
     pub ok: bool,
 }
 
 // How many bytes were written: all, or none that count, where a write failed.
-#[derive(Drop)]
+#[derive(Clone, Copy)]
 pub struct Sent {
     pub count: usize,
     pub ok: bool,

@@ -1,5 +1,7 @@
 // Runs calls of the library: each call comes from standard input with its values, and all that it hands back goes to standard output.
 // differential/calls.py says how calls and answers are written, and has the table of calls.
+#![tactic(auto)]
+
 use libc::STDIN_FILENO;
 
 mod bytes; // bytes.rt: numbers, buffers and lists at places, and answers

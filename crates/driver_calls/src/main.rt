@@ -1,5 +1,7 @@
 // Runs calls of the library: each call comes from standard input with its values, and all that it hands back goes to standard output.
 // differential/calls.py says how calls and answers are written, and has the table of calls.
+#![tactic(auto)]
+
 use driver_input::{behind, buffer, from, number, past_buffer, until};
 use driver_parts::{fields_of, prints, reports, searches, stages};
 use driver_racks::{places, racks};

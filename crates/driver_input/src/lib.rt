@@ -1,5 +1,7 @@
 // The values of a call as bytes: numbers of 8 bytes each, little-endian, one behind another. A number is found by how many stand before it;
 // a buffer is its length and then its bytes, a list its length and then its numbers (differential/calls.py).
+#![tactic(auto)]
+
 ghost use Rattle.std.specs.Prelude.{◌≡◌, ◌%◌, ◌≤◌, length, take, drop};
 ghost use Rattle.lists.specs.Lists.{tabulate};
 ghost use Rattle.driver_input.specs.Input.{number_in, numbers_from, is_set, buffer_in, past_buffer, past_list, copied, lent_buffer, lent_list};

@@ -1,5 +1,7 @@
 // The library in use: a card is made from a passage, its watch takes bytes, is parked in the middle of the passage, resumed, and rings at the
 // passage's last byte. Then a rack: two passages on one line. (README.md shows these lines.)
+#![tactic(auto)]
+
 use card_core::make;
 use checkpoint_restore::restore;
 use checkpoint_save::save;

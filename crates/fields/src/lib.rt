@@ -1,10 +1,12 @@
 // The fields of a record, little-endian numbers in a slice of bytes, each of a width: one writer and one reader (document 01, "Records").
+#![tactic(auto)]
+
 ghost use Rattle.std.specs.Prelude.{◌≡◌, ◌+◌, ◌^◌, ◌≤◌, ◌<◌, leb, length};
 ghost use Rattle.fields.specs.Fields.{little_endian, number_from, number_at, pasted};
 ghost use Rattle.fields.specs.Calls.{width_of, number_of, field_at, put_at};
 
 // How many bytes a field has: 2, 4 or 8.
-#[derive(Drop)]
+#[derive(Clone, Copy)]
 pub enum Width {
     Half,
     Word,
@@ -12,7 +14,7 @@ pub enum Width {
 }
 
 // What stands at a place: a number, or too few bytes for one.
-#[derive(Drop)]
+#[derive(Clone, Copy)]
 pub enum Found {
     Number(u64),
     Missing,

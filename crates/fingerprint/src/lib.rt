@@ -1,4 +1,6 @@
 // Karp-Rabin fingerprints of byte blocks (document 01, "Fingerprints"; the value of a byte by document 02, A.4).
+#![tactic(auto)]
+
 ghost use Rattle.std.specs.Prelude.{◌≡◌, ℕ};
 ghost use Rattle.fingerprint.specs.Fingerprint.{
   empty,
@@ -27,19 +29,19 @@ ghost use Rattle.fingerprint.specs.Fingerprint.{
 };
 
 // The key r, under which all fingerprints of a signature are taken.
-#[derive(Drop)]
+#[derive(Clone, Copy)]
 pub struct Key {
     pub r: u32,
 }
 
 // A power of a key, modulo P.
-#[derive(Drop)]
+#[derive(Clone, Copy)]
 pub struct Power {
     pub value: u32,
 }
 
 // The fingerprint of a block of bytes: a number below P.
-#[derive(Drop)]
+#[derive(Clone, Copy)]
 pub struct Fingerprint {
     pub value: u32,
 }

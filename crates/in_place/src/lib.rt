@@ -1,4 +1,6 @@
 // The thin entry (document 01, "Ladder"): the board's own watch is lent, and altered where it lies.
+#![tactic(auto)]
+
 ghost use Rattle.std.specs.Prelude.{◌≡◌};
 ghost use Rattle.refusal.specs.Number.{number};
 ghost use Rattle.matcher.specs.Stroke.{stroke_refusal, stroke_answer, after_stroke};
@@ -8,7 +10,7 @@ use refusal::Verdict;
 use walk::Answer;
 
 // What the thin entry answers: the verdict and the answer; the watch is altered where it lies.
-#[derive(Drop)]
+#[derive(Clone, Copy)]
 pub struct Reply {
     pub verdict: Verdict,
     pub answer: Answer,

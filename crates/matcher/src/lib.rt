@@ -1,4 +1,6 @@
 // The streaming matcher (document 01, "Ladder"): a watch in a few hundred bytes, and its answer to each byte.
+#![tactic(auto)]
+
 ghost use Rattle.std.specs.Prelude.{◌≡◌, true, false, ◌&&◌, ℕ, ◌≤◌, ◌<◌};
 ghost use Rattle.fingerprint.specs.declared.Key.{Key};
 ghost use Rattle.ladder.specs.Prefix.{levels};
@@ -22,7 +24,7 @@ use stage::{MAX_TAKEN, Mark, STAGES, Stage};
 use walk::{Answer, Round, Walk};
 
 // A watch: its card, t with F_t, and its stages.
-#[derive(Drop)]
+#[derive(Clone, Copy)]
 pub struct Matcher {
     pub signature: Signature,
     pub now: Mark,
@@ -30,14 +32,14 @@ pub struct Matcher {
 }
 
 // What a fresh watch is asked for: it holds nothing where the card is refused.
-#[derive(Drop)]
+#[derive(Clone, Copy)]
 pub struct Started {
     pub verdict: Verdict,
     pub matcher: Matcher,
 }
 
 // What one byte brings: the answer, empty where the byte is refused, and the watch, as it was where the byte is refused.
-#[derive(Drop)]
+#[derive(Clone, Copy)]
 pub struct Stroke {
     pub verdict: Verdict,
     pub answer: Answer,
@@ -46,7 +48,7 @@ pub struct Stroke {
 
 // What one byte brings to a watch that shares t and F_t with others: whether its stages were visited, and what came of it: the stages then, and
 // the answer.
-#[derive(Drop)]
+#[derive(Clone, Copy)]
 pub struct Turn {
     pub verdict: Verdict,
     pub moved: bool,
@@ -55,7 +57,7 @@ pub struct Turn {
 
 // What is seen of a watch that shares t with others: whether it is no misfit, and, if so and if it was asked, a t up to which no start becomes
 // ripe.
-#[derive(Drop)]
+#[derive(Clone, Copy)]
 pub struct Judged {
     pub ok: bool,
     pub until: u64,

@@ -1,6 +1,8 @@
 // Turns a Standard MIDI File of format 0 into passage bytes (document 02, A.2): the file comes from standard input, the lowest and the
 // highest bell are the two arguments, and the strokes go to standard output. What is refused is said on standard error, by its number; so
 // are, in words, a file that is too long, a read that fails, and strokes that cannot be written.
+#![tactic(auto)]
+
 ghost use Rattle.midi.specs.Outcome.{Turned};
 
 use decimal::Parsed;
@@ -9,7 +11,7 @@ use midi_file::Bells;
 use refusal::Verdict;
 
 // The strokes were written; or the file is too long; or it is refused; or a read failed; or the write did.
-#[derive(Drop)]
+#[derive(Clone, Copy)]
 enum Status {
     Written,
     Overlong,
@@ -19,7 +21,7 @@ enum Status {
 }
 
 // How many bytes of the file were read, how many strokes were written, what was refused, if something was, and how it ended.
-#[derive(Drop)]
+#[derive(Clone, Copy)]
 struct Outcome {
     read: usize,
     written: usize,
@@ -120,7 +122,7 @@ fn say(outcome: Outcome) {
 }
 
 // What an argument says: a MIDI key, or none.
-#[derive(Drop)]
+#[derive(Clone, Copy)]
 enum Bell {
     Key(u8),
     NoKey,

@@ -3,7 +3,7 @@ ghost use Rattle.std.specs.Prelude.{◌≡◌, ◌+◌, ◌≤◌, length};
 ghost use Rattle.midi_file.specs.File.{number_at, same_bytes, is_whole, is_header, track_of};
 
 // The first track chunk of a file: where its inside begins, and its length. There may be none, or a chunk that is cut short before it.
-#[derive(Drop)]
+#[derive(Clone, Copy)]
 pub enum Chunk {
     Track(usize, usize),
     Missing,

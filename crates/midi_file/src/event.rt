@@ -15,14 +15,14 @@ ghost use Rattle.midi_file.specs.Track.{
 };
 
 // A quantity: its value, and the place behind it. There is none where it is cut short or has more than four bytes.
-#[derive(Drop)]
+#[derive(Clone, Copy)]
 pub enum Quantity {
     Value(usize, usize),
     NoValue,
 }
 
 // An event: a channel message with its status and its data bytes, an exclusive event, or a meta event with its type and its length.
-#[derive(Drop)]
+#[derive(Clone, Copy)]
 pub enum Event {
     Message(u8, u8, u8),
     Exclusive,
@@ -30,14 +30,14 @@ pub enum Event {
 }
 
 // An event, and the place where it ends.
-#[derive(Drop)]
+#[derive(Clone, Copy)]
 pub struct Placed {
     pub event: Event,
     pub end: usize,
 }
 
 // What stands at a place of a track: an event, or nothing that reads well.
-#[derive(Drop)]
+#[derive(Clone, Copy)]
 pub enum Step {
     Read(Placed),
     Bad,

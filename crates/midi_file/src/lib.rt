@@ -1,4 +1,6 @@
 // Reads passages from Standard MIDI Files of format 0 (document 02, A.2): the key of each Note On with a velocity above 0.
+#![tactic(auto)]
+
 ghost use Rattle.std.specs.Prelude.{◌≡◌, cond, ◌&&◌, length};
 ghost use Rattle.refusal.specs.Number.{number};
 ghost use Rattle.midi_file.specs.Track.{is_bare};
@@ -26,14 +28,14 @@ use crate::event::{Event, MOST_QUANTITY, Step, event_at};
 use crate::note::{Note, note_of};
 
 // The lowest and the highest bell, as MIDI keys; both are inside.
-#[derive(Drop)]
+#[derive(Clone, Copy)]
 pub struct Bells {
     pub lowest: u8,
     pub highest: u8,
 }
 
 // What a file was read as: how many strokes were written, or why none were.
-#[derive(Drop)]
+#[derive(Clone, Copy)]
 pub struct Reading {
     pub verdict: Verdict,
     pub count: usize,

@@ -6,7 +6,7 @@ use crate::Bells;
 use crate::event::Event;
 
 // What an event gives: a key outside the bells, silence, or a stroke.
-#[derive(Drop)]
+#[derive(Clone, Copy)]
 pub enum Note {
     Outside,
     Silent,

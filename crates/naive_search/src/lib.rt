@@ -1,5 +1,7 @@
 // A plain search: occurrences by comparing bytes one by one, fingerprints by the rule for one byte more. It shares no code with the matcher,
 // and each answer is document 01's definition, on all inputs.
+#![tactic(auto)]
+
 ghost use Rattle.std.specs.Prelude.{◌≡◌, ◌+◌, ◌≤◌, length};
 ghost use Rattle.fingerprint.specs.Fingerprint.{
   agree_under,

@@ -1,4 +1,6 @@
 // What an answer has to report, noted in a lent list of numbers.
+#![tactic(auto)]
+
 ghost use Rattle.std.specs.Prelude.{◌≡◌, ◌∷◌, [], ◌+◌, ◌≤◌, min, length};
 ghost use Rattle.lists.specs.Stored.{Stored};
 ghost use Rattle.stage.specs.Stages.{stage_count};

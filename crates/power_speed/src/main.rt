@@ -1,6 +1,8 @@
 // Powers of keys, for measuring (differential/bench) and beside another program's (differential/gate). Standard input is a list of up to
 // 4,096 cases of 16 bytes: a key r in 4 bytes, an exponent n in 8 and a number of turns in 4, the low byte first in each. For each case
 // a line has what r is in the end: each turn makes it r to the n and 1 more, modulo p, as one join does with the fingerprint 1 twice.
+#![tactic(auto)]
+
 use fields::Width;
 use fingerprint::{Fingerprint, Key};
 

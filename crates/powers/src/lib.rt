@@ -1,4 +1,6 @@
 // The powers of a key that a stroke needs, from one table: r to 1, 2, 4 .. 2^20.
+#![tactic(auto)]
+
 ghost use Rattle.std.specs.Prelude.{◌≡◌, ℕ, ◌≤◌, min};
 ghost use Rattle.fingerprint.specs.declared.Key.{Key};
 ghost use Rattle.fingerprint.specs.Fingerprint.{power};
@@ -10,7 +12,7 @@ use signature::{MAX_LENGTH, PLACES};
 
 // r to 1, 2, 4 .. as far as passages of up to so many bytes need it, found once for all that share a key. Nothing outside makes one but
 // `Powers::of`: its fields are private.
-#[derive(Drop)]
+#[derive(Clone, Copy)]
 pub struct Powers {
     key: Key,
     most: u32,

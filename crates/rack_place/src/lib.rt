@@ -1,4 +1,6 @@
 // A card's place in a rack (document 02, A.1): free or with a card under a name, and the search for one among a rack's places.
+#![tactic(auto)]
+
 ghost use Rattle.std.specs.Prelude.{◌≡◌, ◌≤◌};
 ghost use Rattle.fingerprint.specs.Fingerprint.{same, empty};
 ghost use Rattle.rack_names.specs.Names.{name_count};
@@ -13,7 +15,7 @@ use stage::{Mark, STAGES, Stage};
 const RACK: usize = CARDS as usize;
 
 // A card in a rack: its name, the count at which it was put in, the card and what its stages list. A place whose card has length 0 is free.
-#[derive(Drop)]
+#[derive(Clone, Copy)]
 pub struct Place {
     pub name: u16,
     pub since: u64,

@@ -1,6 +1,8 @@
 // A rack beside as many lone watches, for measuring (differential/bench): the same cards and stream bring the same line of sums. Standard
 // input is `w` for the watches or `r` for the rack, one byte that is the number of cards, their records one behind another, and the stream.
 // The line has the numbers of bytes, comparisons and rings, and the sum of the rung starts; it is empty where the cards cannot be read.
+#![tactic(auto)]
+
 use card_record::read_signature;
 use fingerprint::Key;
 use matcher::Matcher;
@@ -25,7 +27,7 @@ const MODULUS: u64 = 1000003;
 const CHUNKS: u32 = 16777217;
 
 // What stands before the stream: whether lone watches are wanted, the cards, and how many bytes it takes; whether it could be read.
-#[derive(Drop)]
+#[derive(Clone, Copy)]
 struct Front {
     lone: bool,
     cards: [Signature; CARDS],
@@ -35,7 +37,7 @@ struct Front {
 }
 
 // Bytes, comparisons, rings and rung starts of all strokes so far.
-#[derive(Drop)]
+#[derive(Clone, Copy)]
 struct Sums {
     bytes: u64,
     comparisons: u64,
@@ -44,7 +46,7 @@ struct Sums {
 }
 
 // The watches and the rack; which of them the stream goes through; and what it has come to.
-#[derive(Drop)]
+#[derive(Clone, Copy)]
 struct Run {
     lone: bool,
     many: usize,

@@ -1,5 +1,7 @@
 // What records are made of (document 01, "Records"), each at a place of a slice: numbers of 4 bytes, keys, fingerprints, and the head.
 // What is written where there is no room for it leaves the slice as it was.
+#![tactic(auto)]
+
 ghost use Rattle.std.specs.Prelude.{◌≡◌, [], ◌∷◌};
 ghost use Rattle.fields.specs.Calls.{put_each};
 ghost use Rattle.fields.specs.Fields.{widths, number_at, values_at};
@@ -36,7 +38,7 @@ pub const PRINT_AT: usize = KEY_AT + KEY_SIZE;
 
 // What a writer hands back: the bytes used, 0 where the call is refused; behind a used part, the new used length, the old one where the
 // call is refused.
-#[derive(Drop)]
+#[derive(Clone, Copy)]
 pub struct Written {
     pub verdict: Verdict,
     pub used: usize,

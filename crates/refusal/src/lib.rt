@@ -1,8 +1,10 @@
 // The refusals of document 01's table ("The board's refusals"), each with its number.
+#![tactic(auto)]
+
 ghost use Rattle.std.specs.Prelude.{◌≡◌};
 ghost use Rattle.refusal.specs.Number.{refusal_number, number};
 
-#[derive(Drop)]
+#[derive(Clone, Copy)]
 pub enum Refusal {
     Empty,
     Overlong,
@@ -25,7 +27,7 @@ pub enum Refusal {
 }
 
 // What a call says of itself: it was carried out, or it was refused and changed nothing.
-#[derive(Drop)]
+#[derive(Clone, Copy)]
 pub enum Verdict {
     Accepted,
     Refused(Refusal),

@@ -1,4 +1,6 @@
 // Says a refusal on standard error, by its number, as the lines of `report` say it: the programs `card` and `midi` say theirs so.
+#![tactic(auto)]
+
 ghost use Rattle.std.specs.Prelude.{◌≡◌, cond, length};
 ghost use Rattle.report_lines.specs.Lines.{line_x};
 

@@ -1,4 +1,6 @@
 // The printing program (document 01, "The printing program"). A read that fails and output that cannot be written are said on standard error.
+#![tactic(auto)]
+
 use report_loop::Status;
 
 fn main() {

@@ -1,4 +1,6 @@
 // What the printing program prints (document 01, "The printing program"): the card, the stream chunk by chunk, and the last lines.
+#![tactic(auto)]
+
 ghost use Rattle.std.specs.Prelude.{◌≡◌, true, ◌+◌, ◌*◌, ◌≤◌, ◌<◌, length};
 ghost use Rattle.refusal.specs.declared.Verdict.TheVariants.{Refused};
 ghost use Rattle.refusal.specs.Number.{number};
@@ -31,14 +33,14 @@ const LAST_ROOM: usize = 2 * ROOM;
 const NOTES: usize = 200 * NOTE;
 
 // How far the program has come: the watch and all comparisons.
-#[derive(Drop)]
+#[derive(Clone, Copy)]
 pub struct Progress {
     pub matcher: Matcher,
     pub total: u64,
 }
 
 // The card was read: why it was refused, if it was; how far the program has come; and how many bytes the card took, 0 where it is refused.
-#[derive(Drop)]
+#[derive(Clone, Copy)]
 pub struct Begun {
     pub verdict: Verdict,
     pub progress: Progress,
@@ -47,7 +49,7 @@ pub struct Begun {
 
 // Bytes were taken: why the next one was refused, if it was; how far the program has come; how many bytes were taken; and how many bytes of
 // lines stand at the buffer's front.
-#[derive(Drop)]
+#[derive(Clone, Copy)]
 pub struct Fed {
     pub verdict: Verdict,
     pub progress: Progress,

@@ -1,4 +1,6 @@
 // The lines of the printing program (document 01, "The printing program"), put into a lent buffer.
+#![tactic(auto)]
+
 ghost use Rattle.std.specs.Prelude.{◌≡◌, ◌+◌, ◌*◌, ◌≤◌, length, leb};
 ghost use Rattle.lists.specs.Stored.{Stored};
 ghost use Rattle.report_lines.specs.Lines.{
@@ -24,7 +26,7 @@ pub const ROOM: usize = 2048;
 pub const MOST_LINE: usize = 86;
 
 // Where the next line goes, or that the buffer has too little room and is as it was.
-#[derive(Drop)]
+#[derive(Clone, Copy)]
 pub enum Put {
     Full,
     Next(usize),

@@ -1,6 +1,8 @@
 // The run of the printing program (document 01, "The printing program"): standard input is a card record and then the stream; the lines go to
 // standard output. After each read, the lines of all bytes read are written before the next read. Where a read fails, or output cannot be
 // written, no last line is written.
+#![tactic(auto)]
+
 ghost use Rattle.std.specs.Prelude.{◌≤◌, ◌*◌, ◌≡◌, length};
 ghost use Rattle.descriptor.specs.Reads.{Reads};
 ghost use Rattle.report_core.specs.Output.{card_bytes};
@@ -15,7 +17,7 @@ use report_core::{CARD_BYTES, Progress, begin, feed, finish};
 use report_lines::Put;
 
 // More is to be read; or the input has ended or something was refused; or a read failed; or a write did.
-#[derive(Drop)]
+#[derive(Clone, Copy)]
 pub enum Status {
     More,
     Ended,
@@ -24,7 +26,7 @@ pub enum Status {
 }
 
 // How far the run has come, what was refused, if something was, how many bytes were read and written, and how the run goes on.
-#[derive(Drop)]
+#[derive(Clone, Copy)]
 struct State {
     progress: Progress,
     verdict: Verdict,
@@ -34,7 +36,7 @@ struct State {
 }
 
 // How many bytes were read and written in all, and how the run ended.
-#[derive(Drop)]
+#[derive(Clone, Copy)]
 pub struct Outcome {
     pub read: u64,
     pub written: u64,

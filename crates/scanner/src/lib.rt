@@ -1,4 +1,6 @@
 // Several bytes of the stream in one call, with what they have to report noted: bytes that can change no stage are passed over together.
+#![tactic(auto)]
+
 ghost use Rattle.std.specs.Prelude.{◌≡◌, true, ◌++◌, ◌+◌, ◌-◌, ◌≤◌, ◌<◌, min, length, drop};
 ghost use Rattle.ladder.specs.Prefix.{levels};
 ghost use Rattle.refusal.specs.Number.{number};
@@ -23,7 +25,7 @@ use walk::Round;
 
 // Where a run of strokes ended: the watch; how many numbers were noted; all comparisons; the place behind the last byte taken; and why the next
 // byte was refused, if it was.
-#[derive(Drop)]
+#[derive(Clone, Copy)]
 pub struct Ended {
     pub matcher: Matcher,
     pub noted: usize,

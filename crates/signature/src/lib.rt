@@ -1,4 +1,6 @@
 // The signature of a pattern (document 01, "Card"): the fingerprints of its tested prefixes, made byte by byte.
+#![tactic(auto)]
+
 ghost use Rattle.std.specs.Prelude.{◌≡◌, true, cond, ◌&&◌, leb, eqb};
 ghost use Rattle.fingerprint.specs.Fingerprint.{empty, same, print_fits};
 ghost use Rattle.ladder.specs.Prefix.{levels, prefix_length};
@@ -18,7 +20,7 @@ pub const PLACES: usize = 21;
 const COUNT: u32 = PLACES as u32;
 
 // A card: the pattern's length m, the key, and the fingerprints of P_0 .. P_k, 0 past them.
-#[derive(Drop)]
+#[derive(Clone, Copy)]
 pub struct Signature {
     pub length: u32,
     pub key: Key,
@@ -26,7 +28,7 @@ pub struct Signature {
 }
 
 // A half-made card: how many bytes were taken, their fingerprint, and the fingerprints of the prefixes reached.
-#[derive(Drop)]
+#[derive(Clone, Copy)]
 pub struct Builder {
     pub length: u32,
     pub key: Key,
@@ -36,14 +38,14 @@ pub struct Builder {
 }
 
 // What beginning or adding a byte hands back: the half-made card, as it was where the call is refused.
-#[derive(Drop)]
+#[derive(Clone, Copy)]
 pub struct Building {
     pub verdict: Verdict,
     pub builder: Builder,
 }
 
 // What finishing hands back: the card, all 0 where the call is refused.
-#[derive(Drop)]
+#[derive(Clone, Copy)]
 pub struct Finished {
     pub verdict: Verdict,
     pub signature: Signature,

@@ -1,4 +1,6 @@
 // One stage of a watch (document 01, "Ladder" and "Misfit"): the starts that it lists, when it misfits, and how starts come and go.
+#![tactic(auto)]
+
 ghost use Rattle.std.specs.Prelude.{◌≡◌, true, ℕ, ◌+◌, ◌-◌, ◌≤◌, ◌<◌};
 ghost use Rattle.fingerprint.specs.declared.Key.{Key};
 ghost use Rattle.ladder.specs.Prefix.{prefix_length};
@@ -19,21 +21,21 @@ const MAX_COUNT: u32 = 4294967295;
 pub const STAGES: usize = 20;
 
 // A place in the stream, with the fingerprint of all bytes before it: a start and its F, or t and F_t.
-#[derive(Drop)]
+#[derive(Clone, Copy)]
 pub struct Mark {
     pub at: u64,
     pub print: Fingerprint,
 }
 
 // A block of the stream, by its length and fingerprint: the step and the step print.
-#[derive(Drop)]
+#[derive(Clone, Copy)]
 pub struct Gap {
     pub length: u32,
     pub print: Fingerprint,
 }
 
 // The starts of one stage, an arithmetic progression: how many are held, the first, the last and the step between them.
-#[derive(Drop)]
+#[derive(Clone, Copy)]
 pub struct Stage {
     pub held: u32,
     pub first: Mark,
@@ -42,7 +44,7 @@ pub struct Stage {
 }
 
 // A set that was set aside: first, step and how many.
-#[derive(Drop)]
+#[derive(Clone, Copy)]
 pub struct Progression {
     pub first: u64,
     pub step: u32,
@@ -50,14 +52,14 @@ pub struct Progression {
 }
 
 // What entering a stage sets aside.
-#[derive(Drop)]
+#[derive(Clone, Copy)]
 pub enum Aside {
     Nothing,
     Set(Progression),
 }
 
 // What entering makes of a stage: the stage then, and the set set aside.
-#[derive(Drop)]
+#[derive(Clone, Copy)]
 pub struct Entry {
     pub stage: Stage,
     pub aside: Aside,

@@ -2,6 +2,8 @@
 // lengths of a pattern and of a stream, 4 bytes each and little-endian, and the bytes of both. Each stream is taken several times over, cut in
 // other places by parking and resuming. What is printed are counts of what was tried, and of the checks that failed. differential/trials.py
 // writes the cases and works out what must be printed.
+#![tactic(auto)]
+
 use crate::bytes::{front, part, plus};
 use crate::tally::{FAILURES, PLACES, count, item, say};
 use fields::{Width, number_at};

@@ -1,4 +1,6 @@
 // One byte's walk over the stages of a watch (document 01, "Ladder"), and the answer that comes of it.
+#![tactic(auto)]
+
 ghost use Rattle.std.specs.Prelude.{◌≡◌, ◌<◌};
 ghost use Rattle.fingerprint.specs.Fingerprint.{same, rest_by};
 ghost use Rattle.stage.specs.Stages.{stage_count};
@@ -10,14 +12,14 @@ use signature::{MAX_LENGTH, PLACES, Signature};
 use stage::{Aside, Mark, Progression, STAGES, Stage};
 
 // Whether a start rang, and which.
-#[derive(Drop)]
+#[derive(Clone, Copy)]
 pub enum Ring {
     Silent,
     At(u64),
 }
 
 // The answer to a byte: the ring; the sets set aside, highest stage first, as many as `asides` says; the number of comparisons.
-#[derive(Drop)]
+#[derive(Clone, Copy)]
 pub struct Answer {
     pub ring: Ring,
     pub sets: [Progression; STAGES],
@@ -26,14 +28,14 @@ pub struct Answer {
 }
 
 // A card and the mark of t and F_t: what stays the same while the stages are visited.
-#[derive(Drop)]
+#[derive(Clone, Copy)]
 pub struct Round {
     pub signature: Signature,
     pub now: Mark,
 }
 
 // What has come of a byte so far: the stages, and the answer as it grows.
-#[derive(Drop)]
+#[derive(Clone, Copy)]
 pub struct Walk {
     pub stages: [Stage; STAGES],
     pub answer: Answer,
