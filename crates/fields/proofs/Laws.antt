@@ -82,7 +82,8 @@ fields_back front (f ∷ fields) tail fit =
     let place : length (front ++ first) ≡ length front + f.width =
     length-append front first ∙ ap (λ (n : ℕ). length front + n) (length-number f.width f.value)
     in
-    rw (append_assoc first (bytes_of fields) tail, number-back front f.width f.value (bytes_of fields ++ tail) fit.0)
+    let same : bytes_of (f ∷ fields) ++ tail ≡ first ++ (bytes_of fields ++ tail) = append_assoc first (bytes_of fields) tail in
+    rw (same, number-back front f.width f.value (bytes_of fields ++ tail) fit.0)
     (ap (λ (l : List ℕ). f.value ∷ l)
     (rw (place, append_assoc) at (fields_back (front ++ first) fields tail fit.1)))
 
