@@ -1,0 +1,15 @@
+-- `signature::store` meets its contract: the places that were passed hold what they are to hold.
+use Prim.Native.Nat.{◌-◌, ◌≤◌}
+use mathlib.Core.Path.{◌≡◌, refl, ◌∙◌}
+use lib.ListN.{length, take, replicate, length-set}
+use Rattle.lists.specs.Lists.{tabulate}
+use Rattle.lists.proofs.Laws.{fill_none, fill_more, fill-all}
+use Rattle.signature.specs.Signature.{stored_at, stored}
+use native.Mathlib.Omega.{arith}
+use Rattle.signature.proofs.store.Given as goal
+
+abbrev pub invariant-loop-i : goal.invariant-loop-i
+invariant-loop-i l = (l.i ≤ 21) × (length l.after ≡ 21) × (take l.i l.after ≡ tabulate (stored_at l.m l.n l.print l.prints) l.i)
+
+abbrev pub decreases-loop-i : goal.decreases-loop-i
+decreases-loop-i l = 21 - l.i
