@@ -10,8 +10,9 @@ ghost use Rattle.card.specs.Outcome.{Carded};
 use card_core::{OVERLONG, key_of, write_card};
 use decimal::Parsed;
 use fingerprint::Key;
-use libc::{STDERR_FILENO, STDIN_FILENO, STDOUT_FILENO};
 use refusal::Verdict;
+use std::env::{Env, FillError};
+use std::io;
 
 // The card was written; or it is refused; or a read failed; or the write did.
 #[derive(Clone, Copy)]
@@ -45,18 +46,23 @@ fn passage_buffer() -> [u8; PASSAGE_ROOM]
 }
 
 // A clear word on the argument.
-fn complain() {
-    io::write_all(
-        STDERR_FILENO,
-        b"card: one argument is wanted, the key, a decimal number of at most 10 digits\n",
+fn complain(rt: &HostRuntime) {
+    let _ = eprintln!(rt;
+        "card: one argument is wanted, the key, a decimal number of at most 10 digits"
     );
 }
 
 // Reads the passage, and writes its card.
-fn make_card(key: Key, passage: &mut [u8], out: &mut [u8]) -> Outcome
+fn make_card<R: io::Read, W: io::Write>(
+    from: &mut R,
+    to: &mut W,
+    key: Key,
+    passage: &mut [u8],
+    out: &mut [u8],
+) -> Outcome
     ensures { Carded key passage.new out.old out.new result }
 {
-    let got = descriptor::fill(STDIN_FILENO, passage);
+    let got = descriptor::fill(from, passage);
     let read = got.count;
     if !got.ok {
         return Outcome {
@@ -77,7 +83,7 @@ fn make_card(key: Key, passage: &mut [u8], out: &mut [u8]) -> Outcome
         };
     }
     let used = card.used;
-    let sent = descriptor::write(STDOUT_FILENO, &out[..used]);
+    let sent = descriptor::write(to, &out[..used]);
     if sent.ok {
         return Outcome {
             read,
@@ -95,33 +101,57 @@ fn make_card(key: Key, passage: &mut [u8], out: &mut [u8]) -> Outcome
 }
 
 // Says on standard error why there is no card.
-fn say(outcome: Outcome) {
+fn say(rt: &HostRuntime, outcome: Outcome) {
     let status = outcome.status;
     let verdict = outcome.verdict;
     match status {
         Status::Written => {}
         Status::Refused => {
-            refusal_line::say(verdict.number());
+            refusal_line::say(&mut rt.stderr(), verdict.number());
         }
-        Status::Unreadable => os::fail(b"card: the passage cannot be read"),
-        Status::Unwritable => os::fail(b"card: the card cannot be written"),
+        Status::Unreadable => {
+            let _ = eprintln!(rt; "card: the passage cannot be read");
+        }
+        Status::Unwritable => {
+            let _ = eprintln!(rt; "card: the card cannot be written");
+        }
     }
 }
 
-fn main() {
-    if os::arg_count() != 2 {
-        complain();
+// Whether there is no argument at a place.
+fn is_absent(rt: &HostRuntime, i: usize) -> bool {
+    let mut text = [0u8; ARGUMENT_ROOM];
+    let told = rt.arg(i, &mut text);
+    matches!(told, Err(FillError::NotPresent))
+}
+
+// The number that the argument at a place says, or none: one that the room does not hold says none.
+fn number_at(rt: &HostRuntime, i: usize) -> Parsed {
+    let mut text = [0u8; ARGUMENT_ROOM];
+    match rt.arg(i, &mut text) {
+        Ok(n) => decimal::parse(&text[..n]),
+        Err(_) => Parsed::Bad,
+    }
+}
+
+fn main(rt: HostRuntime) {
+    if !is_absent(&rt, 2) {
+        complain(&rt);
         return;
     }
-    let mut text = [0u8; ARGUMENT_ROOM];
-    let n = os::arg(1, &mut text);
-    let argument = decimal::parse(&text[..n]);
+    let argument = number_at(&rt, 1);
     let Parsed::Number(number) = argument else {
-        complain();
+        complain(&rt);
         return;
     };
     let mut passage = passage_buffer();
-    let mut out = io::buffer();
-    let outcome = make_card(key_of(number), &mut passage, &mut out);
-    say(outcome);
+    let mut out = [0u8; 4096];
+    let outcome = make_card(
+        &mut rt.stdin(),
+        &mut rt.stdout(),
+        key_of(number),
+        &mut passage,
+        &mut out,
+    );
+    say(&rt, outcome);
 }

@@ -1,11 +1,7 @@
 -- A write that did not fail counts all of its bytes.
 -- Assumes nothing.
-use Prim.Native.Nat.{ℕ, ◌≤◌}
-use mathlib.Core.Path.{◌≡◌, ◌∙◌}
-use mathlib.Core.Bool.{true}
-use mathlib.Core.List.{List}
-use lib.ListN.{length, take}
-use lib.Seq.{length-take-le}
+use Rattle.std.proofs.Common.{ℕ, ◌≤◌, ◌≡◌, ◌∙◌, true, List, length, take}
+use Rattle.std.proofs.lemmas.List.{length-take-le}
 use Rattle.descriptor.specs.declared.Sent.{Sent}
 use Rattle.descriptor.specs.Reads.{Writes}
 

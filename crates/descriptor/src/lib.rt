@@ -1,9 +1,11 @@
-// Reading from a descriptor, with a read that failed told apart from the end of the input, and writing to one. No contract can say which bytes a
-// read brings, or what a write does: for the input and output of `report` and `card` these functions alone call the toolchain's own
+// Reading from a reader, with a read that failed told apart from the end of the input, and writing to a writer. No contract can say which bytes a
+// read of standard input brings, or what a write does: for the input and output of `report` and `card` these functions alone call the library's own
 // (docs/DECISIONS.md, "Read and write").
 #![tactic(auto)]
 
 ghost use Rattle.descriptor.specs.Reads.{Reads, ReadOnce, Writes};
+
+use std::io;
 
 // How many bytes were read, to the buffer's front, and whether no read failed.
 #[derive(Clone, Copy)]
@@ -20,29 +22,25 @@ pub struct Sent {
 }
 
 // Reads once: no bytes at the end of the input, or where the read failed.
-pub fn read(fd: i32, buf: &mut [u8]) -> Got
+pub fn read<R: io::Read>(from: &mut R, buf: &mut [u8]) -> Got
     ensures { ReadOnce result buf.new }
 {
-    let got = libc::read(fd, buf);
-    if got < 0 {
-        return Got {
+    match from.read(buf) {
+        Ok(count) => Got { count, ok: true },
+        Err(_) => Got {
             count: 0,
             ok: false,
-        };
-    }
-    Got {
-        count: io::count(got, buf),
-        ok: true,
+        },
     }
 }
 
 // Reads until the buffer is full, the input ends or a read fails.
-pub fn fill(fd: i32, buf: &mut [u8]) -> Got
+pub fn fill<R: io::Read>(from: &mut R, buf: &mut [u8]) -> Got
     ensures { Reads result buf.new }
 {
     let mut count: usize = 0;
     while count < buf.len() {
-        let got = read(fd, &mut buf[count..]);
+        let got = read(from, &mut buf[count..]);
         if !got.ok {
             return Got { count, ok: false };
         }
@@ -55,10 +53,10 @@ pub fn fill(fd: i32, buf: &mut [u8]) -> Got
 }
 
 // Writes all of the bytes.
-pub fn write(fd: i32, bytes: &[u8]) -> Sent
+pub fn write<W: io::Write>(to: &mut W, bytes: &[u8]) -> Sent
     ensures { Writes result bytes.now }
 {
-    if io::write_all(fd, bytes) {
+    if to.write_all(bytes).is_ok() {
         return Sent {
             count: bytes.len(),
             ok: true,

@@ -6,9 +6,10 @@
 ghost use Rattle.midi.specs.Outcome.{Turned};
 
 use decimal::Parsed;
-use libc::{STDERR_FILENO, STDIN_FILENO, STDOUT_FILENO};
 use midi_file::Bells;
 use refusal::Verdict;
+use std::env::{Env, FillError};
+use std::io;
 
 // The strokes were written; or the file is too long; or it is refused; or a read failed; or the write did.
 #[derive(Clone, Copy)]
@@ -42,10 +43,16 @@ const MOST_KEY: u64 = 127;
 const ARGUMENT_ROOM: usize = 16;
 
 // Reads the file, and writes its strokes.
-fn turn(bells: Bells, file: &mut [u8], out: &mut [u8]) -> Outcome
+fn turn<R: io::Read, W: io::Write>(
+    from: &mut R,
+    to: &mut W,
+    bells: Bells,
+    file: &mut [u8],
+    out: &mut [u8],
+) -> Outcome
     ensures { Turned bells file.new out.old out.new result }
 {
-    let got = descriptor::fill(STDIN_FILENO, file);
+    let got = descriptor::fill(from, file);
     let read = got.count;
     if !got.ok {
         return Outcome {
@@ -74,7 +81,7 @@ fn turn(bells: Bells, file: &mut [u8], out: &mut [u8]) -> Outcome
         };
     }
     let count = reading.count;
-    let sent = descriptor::write(STDOUT_FILENO, &out[..count]);
+    let sent = descriptor::write(to, &out[..count]);
     if sent.ok {
         return Outcome {
             read,
@@ -92,32 +99,39 @@ fn turn(bells: Bells, file: &mut [u8], out: &mut [u8]) -> Outcome
 }
 
 // The same with the program's own buffers.
-fn turn_within(bells: Bells, file: &mut [u8; FILE_ROOM], out: &mut [u8; STROKE_ROOM]) -> Outcome
+fn turn_within<R: io::Read, W: io::Write>(
+    from: &mut R,
+    to: &mut W,
+    bells: Bells,
+    file: &mut [u8; FILE_ROOM],
+    out: &mut [u8; STROKE_ROOM],
+) -> Outcome
     ensures { Turned bells file.new out.old out.new result }
 {
-    turn(bells, file, out)
+    turn(from, to, bells, file, out)
 }
 
 // A clear word on a file that is too long.
-fn say_overlong() {
-    io::write_all(
-        STDERR_FILENO,
-        b"midi: the file is longer than 3145728 bytes\n",
-    );
+fn say_overlong(rt: &HostRuntime) {
+    let _ = eprintln!(rt; "midi: the file is longer than 3145728 bytes");
 }
 
 // Says on standard error why there are no strokes.
-fn say(outcome: Outcome) {
+fn say(rt: &HostRuntime, outcome: Outcome) {
     let status = outcome.status;
     let verdict = outcome.verdict;
     match status {
         Status::Written => {}
-        Status::Overlong => say_overlong(),
+        Status::Overlong => say_overlong(rt),
         Status::Refused => {
-            refusal_line::say(verdict.number());
+            refusal_line::say(&mut rt.stderr(), verdict.number());
         }
-        Status::Unreadable => os::fail(b"midi: the file cannot be read"),
-        Status::Unwritable => os::fail(b"midi: the strokes cannot be written"),
+        Status::Unreadable => {
+            let _ = eprintln!(rt; "midi: the file cannot be read");
+        }
+        Status::Unwritable => {
+            let _ = eprintln!(rt; "midi: the strokes cannot be written");
+        }
     }
 }
 
@@ -128,11 +142,25 @@ enum Bell {
     NoKey,
 }
 
-// The key that an argument names.
-fn bell_of(i: usize) -> Bell {
+// Whether there is no argument at a place.
+fn is_absent(rt: &HostRuntime, i: usize) -> bool {
     let mut text = [0u8; ARGUMENT_ROOM];
-    let n = os::arg(i, &mut text);
-    let argument = decimal::parse(&text[..n]);
+    let told = rt.arg(i, &mut text);
+    matches!(told, Err(FillError::NotPresent))
+}
+
+// The number that the argument at a place says, or none: one that the room does not hold says none.
+fn number_at(rt: &HostRuntime, i: usize) -> Parsed {
+    let mut text = [0u8; ARGUMENT_ROOM];
+    match rt.arg(i, &mut text) {
+        Ok(n) => decimal::parse(&text[..n]),
+        Err(_) => Parsed::Bad,
+    }
+}
+
+// The key that an argument names.
+fn bell_of(rt: &HostRuntime, i: usize) -> Bell {
+    let argument = number_at(rt, i);
     let Parsed::Number(number) = argument else {
         return Bell::NoKey;
     };
@@ -143,30 +171,35 @@ fn bell_of(i: usize) -> Bell {
 }
 
 // A clear word on the arguments.
-fn complain() {
-    io::write_all(
-        STDERR_FILENO,
-        b"midi: two arguments are wanted, the lowest and the highest bell, MIDI keys from 0 to 127\n",
+fn complain(rt: &HostRuntime) {
+    let _ = eprintln!(rt;
+        "midi: two arguments are wanted, the lowest and the highest bell, MIDI keys from 0 to 127"
     );
 }
 
-fn main() {
-    if os::arg_count() != 3 {
-        complain();
+fn main(rt: HostRuntime) {
+    if !is_absent(&rt, 3) {
+        complain(&rt);
         return;
     }
-    let low = bell_of(1);
-    let high = bell_of(2);
+    let low = bell_of(&rt, 1);
+    let high = bell_of(&rt, 2);
     let Bell::Key(lowest) = low else {
-        complain();
+        complain(&rt);
         return;
     };
     let Bell::Key(highest) = high else {
-        complain();
+        complain(&rt);
         return;
     };
     let mut file = [0u8; FILE_ROOM];
     let mut out = [0u8; STROKE_ROOM];
-    let outcome = turn_within(Bells { lowest, highest }, &mut file, &mut out);
-    say(outcome);
+    let outcome = turn_within(
+        &mut rt.stdin(),
+        &mut rt.stdout(),
+        Bells { lowest, highest },
+        &mut file,
+        &mut out,
+    );
+    say(&rt, outcome);
 }

@@ -3,13 +3,13 @@
 
 use report_loop::Status;
 
-fn main() {
-    let outcome = report_loop::run();
+fn main(rt: HostRuntime) {
+    let outcome = report_loop::run(&mut rt.stdin(), &mut rt.stdout());
     let status = outcome.status;
     if let Status::Unreadable = status {
-        os::fail(b"report: the input cannot be read");
+        let _ = eprintln!(rt; "report: the input cannot be read");
     }
     if let Status::Unwritable = status {
-        os::fail(b"report: the output cannot be written");
+        let _ = eprintln!(rt; "report: the output cannot be written");
     }
 }

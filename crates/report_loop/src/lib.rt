@@ -11,10 +11,10 @@ ghost use Rattle.stage.specs.Stage.{max_taken};
 ghost use Rattle.report_loop.specs.State.{buffer_size, behind_front, Sound, Passed, Ready, Turned, Standing, Stands, Closed, Over};
 
 use descriptor::Got;
-use libc::{STDIN_FILENO, STDOUT_FILENO};
 use refusal::Verdict;
 use report_core::{CARD_BYTES, Progress, begin, feed, finish};
 use report_lines::Put;
+use std::io;
 
 // More is to be read; or the input has ended or something was refused; or a read failed; or a write did.
 #[derive(Clone, Copy)]
@@ -44,7 +44,7 @@ pub struct Outcome {
 }
 
 // Writes the lines that the bytes of a chunk bring, as many at a time as the buffer holds.
-fn pass(s: State, chunk: &[u8], out: &mut [u8]) -> State
+fn pass<W: io::Write>(to: &mut W, s: State, chunk: &[u8], out: &mut [u8]) -> State
     requires { Sound s.progress s.written × (buffer_size ≡ length out.old) }
     ensures { Passed s chunk.now result }
 {
@@ -54,7 +54,7 @@ fn pass(s: State, chunk: &[u8], out: &mut [u8]) -> State
     while next < chunk.len() {
         let fed = feed(p, &chunk[next..], out);
         let used = fed.used;
-        let sent = descriptor::write(STDOUT_FILENO, &out[..used]);
+        let sent = descriptor::write(to, &out[..used]);
         if !sent.ok {
             return State {
                 status: Status::Unwritable,
@@ -86,11 +86,11 @@ fn pass(s: State, chunk: &[u8], out: &mut [u8]) -> State
 }
 
 // Reads the bytes on which the card is judged, or all of the input if that is less.
-fn read_front(input: &mut [u8]) -> Got
+fn read_front<R: io::Read>(from: &mut R, input: &mut [u8]) -> Got
     requires { card_bytes ≤ length input.old }
     ensures { (result.count ≤ card_bytes) × Reads result input.new }
 {
-    descriptor::fill(STDIN_FILENO, &mut input[..CARD_BYTES])
+    descriptor::fill(from, &mut input[..CARD_BYTES])
 }
 
 // How the run goes on behind the front: the input has ended where it is shorter than the bytes on which a card is judged.
@@ -105,7 +105,7 @@ fn behind_front(n: usize) -> Status
 }
 
 // Reads the card, on the bytes on which it is judged, and writes what those behind it bring.
-fn open(front: &[u8], out: &mut [u8]) -> State
+fn open<W: io::Write>(to: &mut W, front: &[u8], out: &mut [u8]) -> State
     requires { (length front.now ≤ card_bytes) × (buffer_size ≡ length out.old) }
     ensures { Standing front.now result }
 {
@@ -131,15 +131,21 @@ fn open(front: &[u8], out: &mut [u8]) -> State
         written: 0,
         status,
     };
-    pass(s, &front[taken..], out)
+    pass(to, s, &front[taken..], out)
 }
 
 // Reads the next chunk, and writes what it brings.
-fn turn(s: State, input: &mut [u8], out: &mut [u8]) -> State
+fn turn<R: io::Read, W: io::Write>(
+    from: &mut R,
+    to: &mut W,
+    s: State,
+    input: &mut [u8],
+    out: &mut [u8],
+) -> State
     requires { Ready s × (s.status ≡ More) × (buffer_size ≡ length out.old) }
     ensures { Turned s result input.new }
 {
-    let got = descriptor::read(STDIN_FILENO, input);
+    let got = descriptor::read(from, input);
     if !got.ok {
         return State {
             status: Status::Unreadable,
@@ -156,25 +162,31 @@ fn turn(s: State, input: &mut [u8], out: &mut [u8]) -> State
         };
     }
     let next = State { read, ..s };
-    pass(next, &input[..n], out)
+    pass(to, next, &input[..n], out)
 }
 
 // Reads chunk after chunk. It ends, since each chunk brings t nearer to its limit.
-fn read_on(first: State, input: &mut [u8], out: &mut [u8]) -> State
+fn read_on<R: io::Read, W: io::Write>(
+    from: &mut R,
+    to: &mut W,
+    first: State,
+    input: &mut [u8],
+    out: &mut [u8],
+) -> State
     requires { Stands first × (buffer_size ≡ length out.old) }
     ensures { Stands result × (result.status ≡ More → ⊥) }
 {
     let mut s = first;
     let mut status = s.status;
     while let Status::More = status {
-        s = turn(s, input, out);
+        s = turn(from, to, s, input, out);
         status = s.status;
     }
     s
 }
 
 // Writes the last lines.
-fn close(s: State, out: &mut [u8]) -> Outcome
+fn close<W: io::Write>(to: &mut W, s: State, out: &mut [u8]) -> Outcome
     requires { (s.written ≤ buffer_size * max_taken) × (buffer_size ≡ length out.old) }
     ensures { Closed s result }
 {
@@ -182,7 +194,7 @@ fn close(s: State, out: &mut [u8]) -> Outcome
     let progress = s.progress;
     let put = finish(verdict, progress.matcher.now.at, progress.total, out);
     if let Put::Next(end) = put {
-        let sent = descriptor::write(STDOUT_FILENO, &out[..end]);
+        let sent = descriptor::write(to, &out[..end]);
         if sent.ok {
             return Outcome {
                 read: s.read,
@@ -199,11 +211,16 @@ fn close(s: State, out: &mut [u8]) -> Outcome
 }
 
 // The card, the stream chunk by chunk, and the last lines.
-fn run_with(input: &mut [u8], out: &mut [u8]) -> Outcome
+fn run_with<R: io::Read, W: io::Write>(
+    from: &mut R,
+    to: &mut W,
+    input: &mut [u8],
+    out: &mut [u8],
+) -> Outcome
     requires { (card_bytes ≤ length input.old) × (buffer_size ≡ length out.old) }
     ensures { Over result }
 {
-    let front = read_front(input);
+    let front = read_front(from, input);
     let n = front.count;
     if !front.ok {
         return Outcome {
@@ -212,11 +229,11 @@ fn run_with(input: &mut [u8], out: &mut [u8]) -> Outcome
             status: Status::Unreadable,
         };
     }
-    let opened = open(&input[..n], out);
-    let s = read_on(opened, input, out);
+    let opened = open(to, &input[..n], out);
+    let s = read_on(from, to, opened, input, out);
     let status = s.status;
     if let Status::Ended = status {
-        return close(s, out);
+        return close(to, s, out);
     }
     Outcome {
         read: s.read,
@@ -226,10 +243,10 @@ fn run_with(input: &mut [u8], out: &mut [u8]) -> Outcome
 }
 
 // The run, with a buffer for the input and one for the output.
-pub fn run() -> Outcome
+pub fn run<R: io::Read, W: io::Write>(from: &mut R, to: &mut W) -> Outcome
     ensures { Over result }
 {
-    let mut input = io::large_buffer();
-    let mut out = io::large_buffer();
-    run_with(&mut input, &mut out)
+    let mut input = [0u8; 65536];
+    let mut out = [0u8; 65536];
+    run_with(from, to, &mut input, &mut out)
 }
