@@ -1,7 +1,6 @@
 // Numbers, buffers and lists of the input, and answers. Values stand at the front of what is left of the input; a number is found by how many
 // numbers stand before it.
 use fields::{Width, number_at};
-use libc::STDOUT_FILENO;
 use refusal::Verdict;
 
 // The most numbers that are written at once.
@@ -118,43 +117,43 @@ fn put_all(numbers: &[u64], out: &mut [u8]) {
 }
 
 // Answers with a few numbers.
-pub(crate) fn tell_all(numbers: &[u64]) {
+pub(crate) fn tell_all(rt: &HostRuntime, numbers: &[u64]) {
     let mut out = [0u8; 8 * FEW];
     let many = numbers.len();
     if many <= FEW {
         put_all(numbers, &mut out);
-        io::write_all(STDOUT_FILENO, until(&out, 8 * many));
+        descriptor::write(&mut rt.stdout(), until(&out, 8 * many));
     }
 }
 
-pub(crate) fn tell(n: u64) {
+pub(crate) fn tell(rt: &HostRuntime, n: u64) {
     let one = [n];
-    tell_all(&one);
+    tell_all(rt, &one);
 }
 
 // 1 for yes, 0 for no.
-pub(crate) fn tell_whether(ok: bool) {
+pub(crate) fn tell_whether(rt: &HostRuntime, ok: bool) {
     if ok {
-        tell(1);
+        tell(rt, 1);
     } else {
-        tell(0);
+        tell(rt, 0);
     }
 }
 
-pub(crate) fn tell_verdict(verdict: Verdict) {
-    tell(verdict.number() as u64);
+pub(crate) fn tell_verdict(rt: &HostRuntime, verdict: Verdict) {
+    tell(rt, verdict.number() as u64);
 }
 
-pub(crate) fn tell_buffer(bytes: &[u8]) {
-    tell(bytes.len() as u64);
-    io::write_all(STDOUT_FILENO, bytes);
+pub(crate) fn tell_buffer(rt: &HostRuntime, bytes: &[u8]) {
+    tell(rt, bytes.len() as u64);
+    descriptor::write(&mut rt.stdout(), bytes);
 }
 
-pub(crate) fn tell_list(numbers: &[u64]) {
+pub(crate) fn tell_list(rt: &HostRuntime, numbers: &[u64]) {
     let mut i: usize = 0;
-    tell(numbers.len() as u64);
+    tell(rt, numbers.len() as u64);
     while i < LIST && i < numbers.len() {
-        tell(numbers[i]);
+        tell(rt, numbers[i]);
         i = i + 1;
     }
 }

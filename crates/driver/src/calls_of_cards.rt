@@ -9,68 +9,68 @@ use signature::{Builder, Building, Finished};
 // How many numbers a push takes: a half-made card and a byte.
 const PUSHED: u32 = BUILDER + 1;
 
-fn tell_building(made: Building) {
+fn tell_building(rt: &HostRuntime, made: Building) {
     let verdict = made.verdict;
-    tell_verdict(verdict);
-    tell_builder(made.builder);
+    tell_verdict(rt, verdict);
+    tell_builder(rt, made.builder);
 }
 
-fn tell_finished(done: Finished) {
+fn tell_finished(rt: &HostRuntime, done: Finished) {
     let verdict = done.verdict;
-    tell_verdict(verdict);
-    tell_card(done.signature);
+    tell_verdict(rt, verdict);
+    tell_card(rt, done.signature);
 }
 
-fn begin(values: &[u8]) -> &[u8] {
-    tell_building(Builder::begin(word(values, 0), key(values, 1)));
+fn begin<'a>(rt: &HostRuntime, values: &'a [u8]) -> &'a [u8] {
+    tell_building(rt, Builder::begin(word(values, 0), key(values, 1)));
     from(values, 2)
 }
 
-fn push(values: &[u8]) -> &[u8] {
-    tell_building(builder(values).push(byte(values, BUILDER)));
+fn push<'a>(rt: &HostRuntime, values: &'a [u8]) -> &'a [u8] {
+    tell_building(rt, builder(values).push(byte(values, BUILDER)));
     from(values, PUSHED)
 }
 
-fn finish(values: &[u8]) -> &[u8] {
-    tell_finished(builder(values).finish());
+fn finish<'a>(rt: &HostRuntime, values: &'a [u8]) -> &'a [u8] {
+    tell_finished(rt, builder(values).finish());
     from(values, BUILDER)
 }
 
-fn read(values: &[u8]) -> &[u8] {
+fn read<'a>(rt: &HostRuntime, values: &'a [u8]) -> &'a [u8] {
     let read = read_signature(buffer(values));
     let verdict = read.verdict;
-    tell_verdict(verdict);
-    tell(read.taken as u64);
-    tell_card(read.signature);
+    tell_verdict(rt, verdict);
+    tell(rt, read.taken as u64);
+    tell_card(rt, read.signature);
     past_buffer(values)
 }
 
-fn make_whole(values: &[u8]) -> &[u8] {
+fn make_whole<'a>(rt: &HostRuntime, values: &'a [u8]) -> &'a [u8] {
     let rest = past_buffer(values);
-    tell_finished(make(buffer(values), key(rest, 0)));
+    tell_finished(rt, make(buffer(values), key(rest, 0)));
     from(rest, 1)
 }
 
-fn builder_fits(values: &[u8]) -> &[u8] {
-    tell_whether(builder(values).fits());
+fn builder_fits<'a>(rt: &HostRuntime, values: &'a [u8]) -> &'a [u8] {
+    tell_whether(rt, builder(values).fits());
     from(values, BUILDER)
 }
 
-fn card_fits(values: &[u8]) -> &[u8] {
-    tell_whether(card(values).fits());
+fn card_fits<'a>(rt: &HostRuntime, values: &'a [u8]) -> &'a [u8] {
+    tell_whether(rt, card(values).fits());
     from(values, CARD)
 }
 
-pub(crate) fn call(op: u64, values: &[u8]) -> &[u8] {
+pub(crate) fn call<'a>(rt: &HostRuntime, op: u64, values: &'a [u8]) -> &'a [u8] {
     match op {
-        1 => begin(values),
-        2 => push(values),
-        3 => finish(values),
-        4 | 7 => calls_that_write::call(op, values),
-        5 => read(values),
-        6 => make_whole(values),
-        8 => builder_fits(values),
-        9 => card_fits(values),
+        1 => begin(rt, values),
+        2 => push(rt, values),
+        3 => finish(rt, values),
+        4 | 7 => calls_that_write::call(rt, op, values),
+        5 => read(rt, values),
+        6 => make_whole(rt, values),
+        8 => builder_fits(rt, values),
+        9 => card_fits(rt, values),
         _ => &values[0..0],
     }
 }

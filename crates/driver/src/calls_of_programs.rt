@@ -6,28 +6,28 @@ use crate::calls_that_write;
 use crate::watches::{AND_ONE, WATCH, tell_watch, watch};
 use report_core::{Fed, Progress};
 
-fn begin(values: &[u8]) -> &[u8] {
+fn begin<'a>(rt: &HostRuntime, values: &'a [u8]) -> &'a [u8] {
     let begun = report_core::begin(buffer(values));
     let verdict = begun.verdict;
     let progress = begun.progress;
-    tell_verdict(verdict);
-    tell(begun.taken as u64);
-    tell(progress.total);
-    tell_watch(progress.matcher);
+    tell_verdict(rt, verdict);
+    tell(rt, begun.taken as u64);
+    tell(rt, progress.total);
+    tell_watch(rt, progress.matcher);
     past_buffer(values)
 }
 
-fn tell_fed(fed: Fed, lent: &[u8]) {
+fn tell_fed(rt: &HostRuntime, fed: Fed, lent: &[u8]) {
     let verdict = fed.verdict;
     let progress = fed.progress;
     let counts = [fed.taken as u64, fed.used as u64, progress.total];
-    tell_verdict(verdict);
-    tell_all(&counts);
-    tell_watch(progress.matcher);
-    tell_buffer(lent);
+    tell_verdict(rt, verdict);
+    tell_all(rt, &counts);
+    tell_watch(rt, progress.matcher);
+    tell_buffer(rt, lent);
 }
 
-fn feed(values: &[u8]) -> &[u8] {
+fn feed<'a>(rt: &HostRuntime, values: &'a [u8]) -> &'a [u8] {
     let mut room = [0u8; LENT];
     let stream = from(values, AND_ONE);
     let rest = past_buffer(stream);
@@ -37,15 +37,15 @@ fn feed(values: &[u8]) -> &[u8] {
         total: number(values, WATCH),
     };
     let fed = report_core::feed(progress, buffer(stream), lent);
-    tell_fed(fed, lent);
+    tell_fed(rt, fed, lent);
     past_buffer(rest)
 }
 
-pub(crate) fn call(op: u64, values: &[u8]) -> &[u8] {
+pub(crate) fn call<'a>(rt: &HostRuntime, op: u64, values: &'a [u8]) -> &'a [u8] {
     match op {
-        48 => calls_that_write::call(op, values),
-        56 => begin(values),
-        57 => feed(values),
+        48 => calls_that_write::call(rt, op, values),
+        56 => begin(rt, values),
+        57 => feed(rt, values),
         _ => &values[0..0],
     }
 }

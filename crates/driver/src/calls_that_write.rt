@@ -55,14 +55,14 @@ fn last(op: u64, values: &[u8]) -> &[u8] {
     }
 }
 
-pub(crate) fn call(op: u64, values: &[u8]) -> &[u8] {
+pub(crate) fn call<'a>(rt: &HostRuntime, op: u64, values: &'a [u8]) -> &'a [u8] {
     let mut room = [0u8; LENT];
     let rest = last(op, values);
     let lent = lend(rest, &mut room);
     let written = written(op, values, lent);
     let verdict = written.verdict;
-    tell_verdict(verdict);
-    tell(written.used as u64);
-    tell_buffer(lent);
+    tell_verdict(rt, verdict);
+    tell(rt, written.used as u64);
+    tell_buffer(rt, lent);
     past_buffer(rest)
 }

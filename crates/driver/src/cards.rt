@@ -29,15 +29,15 @@ fn prints(values: &[u8]) -> [Fingerprint; PLACES] {
     prints
 }
 
-pub(crate) fn tell_print(print: Fingerprint) {
-    tell(print.number() as u64);
+pub(crate) fn tell_print(rt: &HostRuntime, print: Fingerprint) {
+    tell(rt, print.number() as u64);
 }
 
-fn tell_prints(prints: [Fingerprint; PLACES]) {
+fn tell_prints(rt: &HostRuntime, prints: [Fingerprint; PLACES]) {
     let mut i: u32 = 0;
     while i < COUNT {
         let print = prints[i as usize];
-        tell_print(print);
+        tell_print(rt, print);
         i = i + 1;
     }
 }
@@ -50,12 +50,12 @@ pub(crate) fn card(values: &[u8]) -> Signature {
     }
 }
 
-pub(crate) fn tell_card(card: Signature) {
+pub(crate) fn tell_card(rt: &HostRuntime, card: Signature) {
     let key = card.key;
     let prints = card.prints;
     let head = [card.length as u64, key.number() as u64];
-    tell_all(&head);
-    tell_prints(prints);
+    tell_all(rt, &head);
+    tell_prints(rt, prints);
 }
 
 pub(crate) fn builder(values: &[u8]) -> Builder {
@@ -68,7 +68,7 @@ pub(crate) fn builder(values: &[u8]) -> Builder {
     }
 }
 
-pub(crate) fn tell_builder(builder: Builder) {
+pub(crate) fn tell_builder(rt: &HostRuntime, builder: Builder) {
     let key = builder.key;
     let running = builder.print;
     let prints = builder.prints;
@@ -78,6 +78,6 @@ pub(crate) fn tell_builder(builder: Builder) {
         builder.taken as u64,
         running.number() as u64,
     ];
-    tell_all(&head);
-    tell_prints(prints);
+    tell_all(rt, &head);
+    tell_prints(rt, prints);
 }

@@ -2,8 +2,6 @@
 // differential/calls.py says how calls and answers are written, and has the table of calls.
 #![tactic(auto)]
 
-use libc::STDIN_FILENO;
-
 mod bytes; // bytes.rt: numbers, buffers and lists at places, and answers
 mod cards; // cards.rt: cards and half-made cards
 mod calls_of_cards; // calls_of_cards.rt: the maker's calls
@@ -20,23 +18,23 @@ use crate::bytes::{behind, from, number, until};
 const ROOM: usize = 1048576;
 
 // One call, at the front of the input; what is left behind it. Where no call has its number, nothing is left.
-fn call(input: &[u8]) -> &[u8] {
+fn call<'a>(rt: &HostRuntime, input: &'a [u8]) -> &'a [u8] {
     let op = number(input, 0);
     let values = from(input, 1);
     match op {
-        0..=15 => calls_of_cards::call(op, values),
-        16..=31 => calls_of_watches::call(op, values),
-        32..=47 => racks::call(op, values),
-        48..=63 => calls_of_programs::call(op, values),
-        _ => calls_of_parts::call(op, values),
+        0..=15 => calls_of_cards::call(rt, op, values),
+        16..=31 => calls_of_watches::call(rt, op, values),
+        32..=47 => racks::call(rt, op, values),
+        48..=63 => calls_of_programs::call(rt, op, values),
+        _ => calls_of_parts::call(rt, op, values),
     }
 }
 
 // Call after call, as long as there is input left and less than before.
-fn run(input: &[u8]) {
+fn run(rt: &HostRuntime, input: &[u8]) {
     let mut at: usize = 0;
     while at < input.len() {
-        let left = call(behind(input, at)).len();
+        let left = call(rt, behind(input, at)).len();
         if input.len() - at <= left {
             return;
         }
@@ -45,17 +43,17 @@ fn run(input: &[u8]) {
 }
 
 // Reads the calls and runs them.
-fn serve(room: &mut [u8]) {
-    let got = descriptor::fill(STDIN_FILENO, room);
-    run(until(room, got.count));
+fn serve(rt: &HostRuntime, room: &mut [u8]) {
+    let got = descriptor::fill(&mut rt.stdin(), room);
+    run(rt, until(room, got.count));
 }
 
 // The same with the program's own buffer.
-fn serve_within(room: &mut [u8; ROOM]) {
-    serve(room);
+fn serve_within(rt: &HostRuntime, room: &mut [u8; ROOM]) {
+    serve(rt, room);
 }
 
-fn main() {
+fn main(rt: HostRuntime) {
     let mut room = [0u8; ROOM];
-    serve_within(&mut room);
+    serve_within(&rt, &mut room);
 }

@@ -32,12 +32,12 @@ fn place(values: &[u8]) -> Place {
     }
 }
 
-fn tell_place(place: Place) {
+fn tell_place(rt: &HostRuntime, place: Place) {
     let stages = place.stages;
     let head = [place.name as u64, place.since];
-    tell_all(&head);
-    tell_card(place.signature);
-    tell_stages(stages);
+    tell_all(rt, &head);
+    tell_card(rt, place.signature);
+    tell_stages(rt, stages);
 }
 
 fn rack(values: &[u8]) -> Rack {
@@ -55,73 +55,73 @@ fn rack(values: &[u8]) -> Rack {
     }
 }
 
-fn tell_rack(rack: Rack) {
+fn tell_rack(rt: &HostRuntime, rack: Rack) {
     let key = rack.key;
     let mut i: u32 = 0;
-    tell(key.number() as u64);
-    tell_mark(rack.now);
+    tell(rt, key.number() as u64);
+    tell_mark(rt, rack.now);
     while i < CARDS {
         let place = rack.places[i as usize];
-        tell_place(place);
+        tell_place(rt, place);
         i = i + 1;
     }
 }
 
-fn tell_reports(reports: Reports) {
+fn tell_reports(rt: &HostRuntime, reports: Reports) {
     let head = [reports.many as u64, reports.comparisons as u64];
     let mut i: u32 = 0;
-    tell_all(&head);
+    tell_all(rt, &head);
     while i < CARDS {
         let report = reports.reports[i as usize];
-        tell(report.name as u64);
-        tell_answer(report.answer);
+        tell(rt, report.name as u64);
+        tell_answer(rt, report.answer);
         i = i + 1;
     }
 }
 
-fn tell_changed(changed: Changed) {
+fn tell_changed(rt: &HostRuntime, changed: Changed) {
     let verdict = changed.verdict;
-    tell_verdict(verdict);
-    tell_rack(changed.rack);
+    tell_verdict(rt, verdict);
+    tell_rack(rt, changed.rack);
 }
 
-fn begin(values: &[u8]) -> &[u8] {
-    tell_changed(Rack::begin(key(values, 0)));
+fn begin<'a>(rt: &HostRuntime, values: &'a [u8]) -> &'a [u8] {
+    tell_changed(rt, Rack::begin(key(values, 0)));
     from(values, 1)
 }
 
-fn put_in(values: &[u8]) -> &[u8] {
+fn put_in<'a>(rt: &HostRuntime, values: &'a [u8]) -> &'a [u8] {
     let signature = card(from(values, AND_ONE));
-    tell_changed(rack(values).put_in(half(values, RACK), signature));
+    tell_changed(rt, rack(values).put_in(half(values, RACK), signature));
     from(values, AND_CARD)
 }
 
-fn take_out(values: &[u8]) -> &[u8] {
-    tell_changed(rack(values).take_out(half(values, RACK)));
+fn take_out<'a>(rt: &HostRuntime, values: &'a [u8]) -> &'a [u8] {
+    tell_changed(rt, rack(values).take_out(half(values, RACK)));
     from(values, AND_ONE)
 }
 
-fn stroke(values: &[u8]) -> &[u8] {
+fn stroke<'a>(rt: &HostRuntime, values: &'a [u8]) -> &'a [u8] {
     let struck = rack(values).stroke(byte(values, RACK));
     let verdict = struck.verdict;
-    tell_verdict(verdict);
-    tell_reports(struck.reports);
-    tell_rack(struck.rack);
+    tell_verdict(rt, verdict);
+    tell_reports(rt, struck.reports);
+    tell_rack(rt, struck.rack);
     from(values, AND_ONE)
 }
 
-fn fits(values: &[u8]) -> &[u8] {
-    tell_whether(rack(values).fits());
+fn fits<'a>(rt: &HostRuntime, values: &'a [u8]) -> &'a [u8] {
+    tell_whether(rt, rack(values).fits());
     from(values, RACK)
 }
 
-pub(crate) fn call(op: u64, values: &[u8]) -> &[u8] {
+pub(crate) fn call<'a>(rt: &HostRuntime, op: u64, values: &'a [u8]) -> &'a [u8] {
     match op {
-        32 => begin(values),
-        33 => put_in(values),
-        34 => take_out(values),
-        35 => stroke(values),
-        36 => fits(values),
+        32 => begin(rt, values),
+        33 => put_in(rt, values),
+        34 => take_out(rt, values),
+        35 => stroke(rt, values),
+        36 => fits(rt, values),
         _ => &values[0..0],
     }
 }

@@ -28,10 +28,10 @@ pub(crate) fn mark(values: &[u8]) -> Mark {
     }
 }
 
-pub(crate) fn tell_mark(mark: Mark) {
+pub(crate) fn tell_mark(rt: &HostRuntime, mark: Mark) {
     let print = mark.print;
     let numbers = [mark.at, print.number() as u64];
-    tell_all(&numbers);
+    tell_all(rt, &numbers);
 }
 
 pub(crate) fn stage(values: &[u8]) -> Stage {
@@ -46,7 +46,7 @@ pub(crate) fn stage(values: &[u8]) -> Stage {
     }
 }
 
-pub(crate) fn tell_stage(stage: Stage) {
+pub(crate) fn tell_stage(rt: &HostRuntime, stage: Stage) {
     let first = stage.first;
     let last = stage.last;
     let step = stage.step;
@@ -59,7 +59,7 @@ pub(crate) fn tell_stage(stage: Stage) {
         step.length as u64,
         step.print.number() as u64,
     ];
-    tell_all(&numbers);
+    tell_all(rt, &numbers);
 }
 
 pub(crate) fn stages(values: &[u8]) -> [Stage; STAGES] {
@@ -73,11 +73,11 @@ pub(crate) fn stages(values: &[u8]) -> [Stage; STAGES] {
     stages
 }
 
-pub(crate) fn tell_stages(stages: [Stage; STAGES]) {
+pub(crate) fn tell_stages(rt: &HostRuntime, stages: [Stage; STAGES]) {
     let mut i: u32 = 0;
     while i < COUNT {
         let stage = stages[i as usize];
-        tell_stage(stage);
+        tell_stage(rt, stage);
         i = i + 1;
     }
 }
@@ -90,42 +90,42 @@ pub(crate) fn watch(values: &[u8]) -> Matcher {
     }
 }
 
-pub(crate) fn tell_watch(watch: Matcher) {
+pub(crate) fn tell_watch(rt: &HostRuntime, watch: Matcher) {
     let stages = watch.stages;
-    tell_card(watch.signature);
-    tell_mark(watch.now);
-    tell_stages(stages);
+    tell_card(rt, watch.signature);
+    tell_mark(rt, watch.now);
+    tell_stages(rt, stages);
 }
 
-fn tell_ring(ring: Ring) {
+fn tell_ring(rt: &HostRuntime, ring: Ring) {
     if let Ring::At(start) = ring {
         let rung = [1, start];
-        tell_all(&rung);
+        tell_all(rt, &rung);
         return;
     }
     let silent = [0u64; 2];
-    tell_all(&silent);
+    tell_all(rt, &silent);
 }
 
-pub(crate) fn tell_set(set: Progression) {
+pub(crate) fn tell_set(rt: &HostRuntime, set: Progression) {
     let numbers = [set.first, set.step as u64, set.many as u64];
-    tell_all(&numbers);
+    tell_all(rt, &numbers);
 }
 
-fn tell_sets(sets: [Progression; STAGES]) {
+fn tell_sets(rt: &HostRuntime, sets: [Progression; STAGES]) {
     let mut i: u32 = 0;
     while i < COUNT {
         let set = sets[i as usize];
-        tell_set(set);
+        tell_set(rt, set);
         i = i + 1;
     }
 }
 
-pub(crate) fn tell_answer(answer: Answer) {
+pub(crate) fn tell_answer(rt: &HostRuntime, answer: Answer) {
     let ring = answer.ring;
     let sets = answer.sets;
     let counts = [answer.asides as u64, answer.comparisons as u64];
-    tell_ring(ring);
-    tell_all(&counts);
-    tell_sets(sets);
+    tell_ring(rt, ring);
+    tell_all(rt, &counts);
+    tell_sets(rt, sets);
 }

@@ -1,7 +1,6 @@
 // Answers: numbers, buffers and lists on standard output.
 use driver_input::until;
 use fields::Width;
-use libc::STDOUT_FILENO;
 use refusal::Verdict;
 
 // The most numbers that are written at once.
@@ -17,51 +16,51 @@ fn put_all(numbers: &[u64], out: &mut [u8]) {
 }
 
 // Answers with a few numbers.
-pub fn tell_all(numbers: &[u64]) {
+pub fn tell_all(rt: &HostRuntime, numbers: &[u64]) {
     let mut out = [0u8; 8 * FEW];
     let many = numbers.len();
     if many <= FEW {
         put_all(numbers, &mut out);
-        io::write_all(STDOUT_FILENO, until(&out, 8 * many));
+        descriptor::write(&mut rt.stdout(), until(&out, 8 * many));
     }
 }
 
-pub fn tell(n: u64) {
+pub fn tell(rt: &HostRuntime, n: u64) {
     let one = [n];
-    tell_all(&one);
+    tell_all(rt, &one);
 }
 
-pub fn tell_word(n: u32) {
-    tell(n as u64);
+pub fn tell_word(rt: &HostRuntime, n: u32) {
+    tell(rt, n as u64);
 }
 
-pub fn tell_size(n: usize) {
-    tell(n as u64);
+pub fn tell_size(rt: &HostRuntime, n: usize) {
+    tell(rt, n as u64);
 }
 
 // 1 for yes, 0 for no.
-pub fn tell_whether(ok: bool) {
+pub fn tell_whether(rt: &HostRuntime, ok: bool) {
     if ok {
-        tell(1);
+        tell(rt, 1);
     } else {
-        tell(0);
+        tell(rt, 0);
     }
 }
 
-pub fn tell_verdict(verdict: Verdict) {
-    tell_word(verdict.number());
+pub fn tell_verdict(rt: &HostRuntime, verdict: Verdict) {
+    tell_word(rt, verdict.number());
 }
 
-pub fn tell_buffer(bytes: &[u8]) {
-    tell_size(bytes.len());
-    io::write_all(STDOUT_FILENO, bytes);
+pub fn tell_buffer(rt: &HostRuntime, bytes: &[u8]) {
+    tell_size(rt, bytes.len());
+    descriptor::write(&mut rt.stdout(), bytes);
 }
 
-pub fn tell_list(numbers: &[u64]) {
+pub fn tell_list(rt: &HostRuntime, numbers: &[u64]) {
     let mut i: usize = 0;
-    tell_size(numbers.len());
+    tell_size(rt, numbers.len());
     while i < numbers.len() {
-        tell(numbers[i]);
+        tell(rt, numbers[i]);
         i = i + 1;
     }
 }

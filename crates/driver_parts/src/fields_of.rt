@@ -18,14 +18,14 @@ fn width(n: u64) -> Width {
     }
 }
 
-fn tell_found(found: Found) {
+fn tell_found(rt: &HostRuntime, found: Found) {
     if let Found::Number(number) = found {
-        tell(1);
-        tell(number);
+        tell(rt, 1);
+        tell(rt, number);
         return;
     }
-    tell(0);
-    tell(0);
+    tell(rt, 0);
+    tell(rt, 0);
 }
 
 fn put(op: u64, values: &[u8], lent: &mut [u8]) {
@@ -39,7 +39,7 @@ fn put(op: u64, values: &[u8], lent: &mut [u8]) {
     }
 }
 
-fn altered(op: u64, values: &[u8]) {
+fn altered(rt: &HostRuntime, op: u64, values: &[u8]) {
     let mut room = [0u8; LENT];
     let mut before: u32 = 2;
     if op == 98 {
@@ -47,39 +47,39 @@ fn altered(op: u64, values: &[u8]) {
     }
     let lent = lend(from(values, before), &mut room);
     put(op, values, lent);
-    tell_buffer(lent);
+    tell_buffer(rt, lent);
 }
 
-fn sizes(wide: bool, t: u64, k: u32) {
+fn sizes(rt: &HostRuntime, wide: bool, t: u64, k: u32) {
     let mut format = Format::Narrow;
     if wide {
         format = Format::Wide;
     }
-    tell_size(format.width().bytes());
-    tell(format.kind());
-    tell(format.least());
-    tell_whether(format.can_say(t));
-    tell_size(format.mark_size());
-    tell_size(format.stage_size());
-    tell_size(format.stages_at());
-    tell_size(checkpoint_size(format, k));
+    tell_size(rt, format.width().bytes());
+    tell(rt, format.kind());
+    tell(rt, format.least());
+    tell_whether(rt, format.can_say(t));
+    tell_size(rt, format.mark_size());
+    tell_size(rt, format.stage_size());
+    tell_size(rt, format.stages_at());
+    tell_size(rt, checkpoint_size(format, k));
 }
 
-pub fn call(op: u64, values: &[u8]) {
+pub fn call(rt: &HostRuntime, op: u64, values: &[u8]) {
     let at = number(values, 0) as usize;
     match op {
-        96 => tell_found(field_at(buffer(from(values, 2)), at, width(number(values, 1)))),
-        97 => tell(number_at(buffer(from(values, 2)), at, width(number(values, 1)))),
-        99 => tell_word(word_at(buffer(from(values, 1)), at)),
-        101 => tell_key(key_at(buffer(from(values, 1)), at)),
-        103 => tell_print(print_at(buffer(from(values, 1)), at)),
-        106 => tell_verdict(check_head(
+        96 => tell_found(rt, field_at(buffer(from(values, 2)), at, width(number(values, 1)))),
+        97 => tell(rt, number_at(buffer(from(values, 2)), at, width(number(values, 1)))),
+        99 => tell_word(rt, word_at(buffer(from(values, 1)), at)),
+        101 => tell_key(rt, key_at(buffer(from(values, 1)), at)),
+        103 => tell_print(rt, print_at(buffer(from(values, 1)), at)),
+        106 => tell_verdict(rt, check_head(
             buffer(from(values, 2)),
             number(values, 0),
             number(values, 1),
         )),
-        107 => sizes(flag(values, 0), number(values, 1), word(values, 2)),
-        98 | 100 | 102 | 104 | 105 => altered(op, values),
+        107 => sizes(rt, flag(values, 0), number(values, 1), word(values, 2)),
+        98 | 100 | 102 | 104 | 105 => altered(rt, op, values),
         _ => {}
     }
 }

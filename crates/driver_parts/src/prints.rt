@@ -7,15 +7,15 @@ use fingerprint::{Fingerprint, Key, Power};
 use powers::Powers;
 use signature::PLACES;
 
-fn tests(one: Fingerprint, other: Fingerprint) {
-    tell_whether(one.equals(other));
-    tell_whether(one.fits());
-    tell_whether(one.is_of_byte());
+fn tests(rt: &HostRuntime, one: Fingerprint, other: Fingerprint) {
+    tell_whether(rt, one.equals(other));
+    tell_whether(rt, one.fits());
+    tell_whether(rt, one.is_of_byte());
 }
 
-fn key_tests(one: Key, other: Key) {
-    tell_whether(one.fits());
-    tell_whether(one.equals(other));
+fn key_tests(rt: &HostRuntime, one: Key, other: Key) {
+    tell_whether(rt, one.fits());
+    tell_whether(rt, one.equals(other));
 }
 
 // The power that number i of a key and number j of an exponent make.
@@ -23,15 +23,15 @@ fn power(values: &[u8], i: u32, j: u32) -> Power {
     key(values, i).power(number(values, j))
 }
 
-fn tell_power(print: Fingerprint, power: Power) {
-    tell_print(print.join_by(Fingerprint::empty(), power));
+fn tell_power(rt: &HostRuntime, print: Fingerprint, power: Power) {
+    tell_print(rt, print.join_by(Fingerprint::empty(), power));
 }
 
-fn tell_shifts(print: Fingerprint, shifts: [Power; PLACES]) {
+fn tell_shifts(rt: &HostRuntime, print: Fingerprint, shifts: [Power; PLACES]) {
     let mut i: usize = 0;
     while i < PLACES {
         let shift = shifts[i];
-        tell_power(print, shift);
+        tell_power(rt, print, shift);
         i = i + 1;
     }
 }
@@ -40,33 +40,33 @@ fn table(values: &[u8]) -> Powers {
     Powers::of(key(values, 0), word(values, 1))
 }
 
-fn call_of_powers(op: u64, values: &[u8]) {
+fn call_of_powers(rt: &HostRuntime, op: u64, values: &[u8]) {
     match op {
-        73 => tell_power(
+        73 => tell_power(rt, 
             print(values, 4),
             power(values, 0, 1).times(power(values, 2, 3)),
         ),
-        74 => tell_power(print(values, 2), power(values, 0, 1).squared()),
-        75 => tell_power(print(values, 3), table(values).raise(word(values, 2))),
-        76 => tell_shifts(print(values, 3), table(values).shifts(word(values, 2))),
-        77 => tell_key(table(values).key()),
-        78 => key_tests(key(values, 0), key(values, 1)),
+        74 => tell_power(rt, print(values, 2), power(values, 0, 1).squared()),
+        75 => tell_power(rt, print(values, 3), table(values).raise(word(values, 2))),
+        76 => tell_shifts(rt, print(values, 3), table(values).shifts(word(values, 2))),
+        77 => tell_key(rt, table(values).key()),
+        78 => key_tests(rt, key(values, 0), key(values, 1)),
         _ => {}
     }
 }
 
-pub fn call(op: u64, values: &[u8]) {
+pub fn call(rt: &HostRuntime, op: u64, values: &[u8]) {
     let one = print(values, 0);
     match op {
-        64 => tell_print(one.push(key(values, 1), byte(values, 2))),
-        65 => tell_print(one.join(key(values, 1), print(values, 2), number(values, 3))),
-        66 => tell_print(one.cut(key(values, 1), print(values, 2), number(values, 3))),
-        67 => tests(one, print(values, 1)),
-        68 => tell_power(print(values, 2), power(values, 0, 1)),
-        69 => tell_print(Fingerprint::of_byte(byte(values, 0))),
-        70 => tell_print(one.join_by(print(values, 1), power(values, 2, 3))),
-        71 => tell_print(one.join_times(print(values, 1), power(values, 2, 3), word(values, 4))),
-        72 => tell_print(one.cut_by(print(values, 1), power(values, 2, 3))),
-        _ => call_of_powers(op, values),
+        64 => tell_print(rt, one.push(key(values, 1), byte(values, 2))),
+        65 => tell_print(rt, one.join(key(values, 1), print(values, 2), number(values, 3))),
+        66 => tell_print(rt, one.cut(key(values, 1), print(values, 2), number(values, 3))),
+        67 => tests(rt, one, print(values, 1)),
+        68 => tell_power(rt, print(values, 2), power(values, 0, 1)),
+        69 => tell_print(rt, Fingerprint::of_byte(byte(values, 0))),
+        70 => tell_print(rt, one.join_by(print(values, 1), power(values, 2, 3))),
+        71 => tell_print(rt, one.join_times(print(values, 1), power(values, 2, 3), word(values, 4))),
+        72 => tell_print(rt, one.cut_by(print(values, 1), power(values, 2, 3))),
+        _ => call_of_powers(rt, op, values),
     }
 }

@@ -10,24 +10,24 @@ use refusal::{Refusal, Verdict};
 use report_core::{Begun, Fed, Progress};
 use report_lines::Put;
 
-fn tell_begun(begun: Begun) {
+fn tell_begun(rt: &HostRuntime, begun: Begun) {
     let verdict = begun.verdict;
     let progress = begun.progress;
-    tell_verdict(verdict);
-    tell_size(begun.taken);
-    tell(progress.total);
-    tell_watch(progress.matcher);
+    tell_verdict(rt, verdict);
+    tell_size(rt, begun.taken);
+    tell(rt, progress.total);
+    tell_watch(rt, progress.matcher);
 }
 
-fn tell_fed(fed: Fed, lent: &[u8]) {
+fn tell_fed(rt: &HostRuntime, fed: Fed, lent: &[u8]) {
     let verdict = fed.verdict;
     let progress = fed.progress;
-    tell_verdict(verdict);
-    tell_size(fed.taken);
-    tell_size(fed.used);
-    tell(progress.total);
-    tell_watch(progress.matcher);
-    tell_buffer(lent);
+    tell_verdict(rt, verdict);
+    tell_size(rt, fed.taken);
+    tell_size(rt, fed.used);
+    tell(rt, progress.total);
+    tell_watch(rt, progress.matcher);
+    tell_buffer(rt, lent);
 }
 
 fn progress(values: &[u8]) -> Progress {
@@ -37,30 +37,30 @@ fn progress(values: &[u8]) -> Progress {
     }
 }
 
-fn feed(values: &[u8]) {
+fn feed(rt: &HostRuntime, values: &[u8]) {
     let mut room = [0u8; LENT];
     let stream = from(values, AND_ONE);
     let lent = lend(past_buffer(stream), &mut room);
     let fed = report_core::feed(progress(values), buffer(stream), lent);
-    tell_fed(fed, lent);
+    tell_fed(rt, fed, lent);
 }
 
-fn tell_parsed(parsed: Parsed) {
+fn tell_parsed(rt: &HostRuntime, parsed: Parsed) {
     if let Parsed::Number(number) = parsed {
-        tell(1);
-        tell(number);
+        tell(rt, 1);
+        tell(rt, number);
         return;
     }
-    tell(0);
-    tell(0);
+    tell(rt, 0);
+    tell(rt, 0);
 }
 
-fn put_decimal(values: &[u8]) {
+fn put_decimal(rt: &HostRuntime, values: &[u8]) {
     let mut room = [0u8; LENT];
     let lent = lend(from(values, 2), &mut room);
     let at = number(values, 0) as usize;
-    tell_size(decimal::put(lent, at, number(values, 1)));
-    tell_buffer(lent);
+    tell_size(rt, decimal::put(lent, at, number(values, 1)));
+    tell_buffer(rt, lent);
 }
 
 // The refusal of a number; acceptance for a number that no refusal has.
@@ -89,15 +89,15 @@ fn verdict(n: u64) -> Verdict {
 }
 
 // 1 and the place behind what was put, or twice 0 where there was no room.
-fn tell_put(put: Put, lent: &[u8]) {
+fn tell_put(rt: &HostRuntime, put: Put, lent: &[u8]) {
     if let Put::Next(next) = put {
-        tell(1);
-        tell_size(next);
+        tell(rt, 1);
+        tell_size(rt, next);
     } else {
-        tell(0);
-        tell(0);
+        tell(rt, 0);
+        tell(rt, 0);
     }
-    tell_buffer(lent);
+    tell_buffer(rt, lent);
 }
 
 fn put_line(op: u64, values: &[u8], lent: &mut [u8]) -> Put {
@@ -110,7 +110,7 @@ fn put_line(op: u64, values: &[u8], lent: &mut [u8]) -> Put {
 }
 
 // A line: three numbers stand before the buffer, or two at a refusal.
-fn line(op: u64, values: &[u8]) {
+fn line(rt: &HostRuntime, op: u64, values: &[u8]) {
     let mut room = [0u8; LENT];
     let mut before: u32 = 3;
     if op == 61 {
@@ -118,29 +118,29 @@ fn line(op: u64, values: &[u8]) {
     }
     let lent = lend(from(values, before), &mut room);
     let put = put_line(op, values, lent);
-    tell_put(put, lent);
+    tell_put(rt, put, lent);
 }
 
 // The lines of a list of notes, which stands before the buffer.
-fn lines(values: &[u8]) {
+fn lines(rt: &HostRuntime, values: &[u8]) {
     let mut room = [0u8; LENT];
     let mut numbers = [0u64; LIST];
     let list = from(values, 1);
     let notes = lend_list(list, &mut numbers);
     let lent = lend(past_list(list), &mut room);
     let put = report_lines::put_notes(lent, number(values, 0) as usize, notes);
-    tell_put(put, lent);
+    tell_put(rt, put, lent);
 }
 
-pub fn call(op: u64, values: &[u8]) {
+pub fn call(rt: &HostRuntime, op: u64, values: &[u8]) {
     match op {
-        49 => tell_parsed(decimal::parse(buffer(values))),
-        50 => put_decimal(values),
-        56 => tell_begun(report_core::begin(buffer(values))),
-        57 => feed(values),
-        58 => tell_whether(progress(values).fits()),
-        60 => lines(values),
-        59 | 61 | 62 => line(op, values),
+        49 => tell_parsed(rt, decimal::parse(buffer(values))),
+        50 => put_decimal(rt, values),
+        56 => tell_begun(rt, report_core::begin(buffer(values))),
+        57 => feed(rt, values),
+        58 => tell_whether(rt, progress(values).fits()),
+        60 => lines(rt, values),
+        59 | 61 | 62 => line(rt, op, values),
         _ => {}
     }
 }

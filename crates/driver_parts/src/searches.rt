@@ -14,41 +14,41 @@ use signature::Signature;
 use stage::{Mark, Stage};
 use walk::Answer;
 
-fn tell_no_labels() {
+fn tell_no_labels(rt: &HostRuntime) {
     let labels = rack_names::no_labels();
     let mut i: u32 = 0;
     while i < CARDS {
-        tell_word(labels[i as usize]);
+        tell_word(rt, labels[i as usize]);
         i = i + 1;
     }
 }
 
-fn nothing() {
-    tell_card(Signature::none());
-    tell_watch(Matcher::none());
-    tell_stage(Stage::none());
-    tell_place(Place::none());
-    tell_answer(Answer::none());
-    tell_reports(Reports::none());
-    tell_no_labels();
-    tell_key(Key::none());
-    tell_mark(Mark::origin());
+fn nothing(rt: &HostRuntime) {
+    tell_card(rt, Signature::none());
+    tell_watch(rt, Matcher::none());
+    tell_stage(rt, Stage::none());
+    tell_place(rt, Place::none());
+    tell_answer(rt, Answer::none());
+    tell_reports(rt, Reports::none());
+    tell_no_labels(rt);
+    tell_key(rt, Key::none());
+    tell_mark(rt, Mark::origin());
 }
 
 // The stream is the first value behind a number, and what is searched in it the second.
-pub fn call(op: u64, values: &[u8]) {
+pub fn call(rt: &HostRuntime, op: u64, values: &[u8]) {
     let rest = from(values, 1);
     match op {
-        112 => tell_whether(occurs(
+        112 => tell_whether(rt, occurs(
             buffer(rest),
             number(values, 0) as usize,
             buffer(past_buffer(rest)),
         )),
-        113 => tell_word(more(word(values, 0), word(values, 1), byte(values, 2))),
-        114 => tell_word(print_of(buffer(rest), word(values, 0))),
-        115 => tell_whether(collides(buffer(rest), buffer(past_buffer(rest)), word(values, 0))),
-        116 => tell_word(naive_search::stages(number(values, 0) as usize)),
-        120 => nothing(),
+        113 => tell_word(rt, more(word(values, 0), word(values, 1), byte(values, 2))),
+        114 => tell_word(rt, print_of(buffer(rest), word(values, 0))),
+        115 => tell_whether(rt, collides(buffer(rest), buffer(past_buffer(rest)), word(values, 0))),
+        116 => tell_word(rt, naive_search::stages(number(values, 0) as usize)),
+        120 => nothing(rt),
         _ => {}
     }
 }

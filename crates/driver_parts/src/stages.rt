@@ -9,7 +9,7 @@ use signature::MAX_LENGTH;
 use stage::{Aside, Entry, Progression, Stage, distance};
 
 // 1 and the set that was set aside, or four times 0.
-fn tell_aside(aside: Aside) {
+fn tell_aside(rt: &HostRuntime, aside: Aside) {
     let mut set = Progression {
         first: 0,
         step: 0,
@@ -20,33 +20,33 @@ fn tell_aside(aside: Aside) {
         set = own;
         held = 1;
     }
-    tell(held);
-    tell_set(set);
+    tell(rt, held);
+    tell_set(rt, set);
 }
 
-fn tell_entry(entry: Entry) {
+fn tell_entry(rt: &HostRuntime, entry: Entry) {
     let aside = entry.aside;
-    tell_stage(entry.stage);
-    tell_aside(aside);
+    tell_stage(rt, entry.stage);
+    tell_aside(rt, aside);
 }
 
-fn tests(stage: Stage, m: u32, i: u32, t: u64) {
-    tell_whether(stage.shape_fits(m, i, t));
-    tell_whether(stage.is_ripe(m, i, t));
-    tell_whether(stage.none_fits());
+fn tests(rt: &HostRuntime, stage: Stage, m: u32, i: u32, t: u64) {
+    tell_whether(rt, stage.shape_fits(m, i, t));
+    tell_whether(rt, stage.is_ripe(m, i, t));
+    tell_whether(rt, stage.none_fits());
 }
 
-pub fn call(op: u64, values: &[u8]) {
+pub fn call(rt: &HostRuntime, op: u64, values: &[u8]) {
     let rest = from(values, STAGE);
     match op {
-        80 => tell_stage(stage(values).take_off(key(rest, 0))),
-        81 => tell_entry(stage(values).enter(key(rest, 0), mark(from(rest, 1)))),
-        82 => tests(stage(values), word(rest, 0), word(rest, 1), number(rest, 2)),
-        83 => tell_whether(stage(values).last_fits(Powers::of(key(rest, 0), MAX_LENGTH))),
-        84 => tell_whether(stage(values).listed_from(number(rest, 0))),
-        85 => tell(stage(values).quiet_until(word(rest, 0), word(rest, 1), number(rest, 2))),
-        86 => tell(distance(number(values, 0), number(values, 1))),
-        87 => tell_whether(mark(values).fits()),
+        80 => tell_stage(rt, stage(values).take_off(key(rest, 0))),
+        81 => tell_entry(rt, stage(values).enter(key(rest, 0), mark(from(rest, 1)))),
+        82 => tests(rt, stage(values), word(rest, 0), word(rest, 1), number(rest, 2)),
+        83 => tell_whether(rt, stage(values).last_fits(Powers::of(key(rest, 0), MAX_LENGTH))),
+        84 => tell_whether(rt, stage(values).listed_from(number(rest, 0))),
+        85 => tell(rt, stage(values).quiet_until(word(rest, 0), word(rest, 1), number(rest, 2))),
+        86 => tell(rt, distance(number(values, 0), number(values, 1))),
+        87 => tell_whether(rt, mark(values).fits()),
         _ => {}
     }
 }

@@ -13,18 +13,18 @@ use rack_report::Report;
 // How many numbers stand before the start that is said where a report has none.
 const BEFORE_OTHER: u32 = 1 + ANSWER;
 
-fn tests(place: Place, name: u16) {
-    tell_whether(place.is_free());
-    tell_whether(place.has_name(name));
-    tell_word(place.label());
-    tell_whether(place.is_clear());
-    tell_whether(place.free_fits());
+fn tests(rt: &HostRuntime, place: Place, name: u16) {
+    tell_whether(rt, place.is_free());
+    tell_whether(rt, place.has_name(name));
+    tell_word(rt, place.label());
+    tell_whether(rt, place.is_clear());
+    tell_whether(rt, place.free_fits());
 }
 
-fn find(rack: Rack, name: u16) {
+fn find(rt: &HostRuntime, rack: Rack, name: u16) {
     let places = rack.places;
-    tell_word(place_of(places, name));
-    tell_word(free_place(places));
+    tell_word(rt, place_of(places, name));
+    tell_word(rt, free_place(places));
 }
 
 fn report(values: &[u8]) -> Report {
@@ -34,16 +34,16 @@ fn report(values: &[u8]) -> Report {
     }
 }
 
-pub fn call(op: u64, values: &[u8]) {
+pub fn call(rt: &HostRuntime, op: u64, values: &[u8]) {
     match op {
-        37 => tell_place(Place::with(half(values, 0), number(values, 1), card(from(values, 2)))),
-        38 => tests(place(values), half(values, PLACE)),
-        39 => find(rack(values), half(values, WHOLE)),
-        40 => tell_whether(begun_fits(key(values, 0), mark(from(values, 1)))),
-        41 => tell_whether(card_fits(card(values), key(values, CARD))),
-        42 => tell_whether(seen_apart(flag(values, 0), labels(from(values, 1)))),
-        43 => tell_word(lowest(labels(values), word(values, CARDS))),
-        44 => tell(report(values).start(number(values, BEFORE_OTHER))),
+        37 => tell_place(rt, Place::with(half(values, 0), number(values, 1), card(from(values, 2)))),
+        38 => tests(rt, place(values), half(values, PLACE)),
+        39 => find(rt, rack(values), half(values, WHOLE)),
+        40 => tell_whether(rt, begun_fits(key(values, 0), mark(from(values, 1)))),
+        41 => tell_whether(rt, card_fits(card(values), key(values, CARD))),
+        42 => tell_whether(rt, seen_apart(flag(values, 0), labels(from(values, 1)))),
+        43 => tell_word(rt, lowest(labels(values), word(values, CARDS))),
+        44 => tell(rt, report(values).start(number(values, BEFORE_OTHER))),
         _ => {}
     }
 }

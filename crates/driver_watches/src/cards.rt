@@ -8,39 +8,39 @@ use driver_input::{buffer, byte, number, past_buffer, word};
 use driver_values::cards::{BUILDER, builder, card, key, print};
 use signature::{Builder, Building, Finished, levels, prefix_length, running_fits};
 
-fn tell_building(made: Building) {
+fn tell_building(rt: &HostRuntime, made: Building) {
     let verdict = made.verdict;
-    tell_verdict(verdict);
-    tell_builder(made.builder);
+    tell_verdict(rt, verdict);
+    tell_builder(rt, made.builder);
 }
 
-fn tell_finished(done: Finished) {
+fn tell_finished(rt: &HostRuntime, done: Finished) {
     let verdict = done.verdict;
-    tell_verdict(verdict);
-    tell_card(done.signature);
+    tell_verdict(rt, verdict);
+    tell_card(rt, done.signature);
 }
 
-fn tell_read(read: SignatureRead) {
+fn tell_read(rt: &HostRuntime, read: SignatureRead) {
     let verdict = read.verdict;
-    tell_verdict(verdict);
-    tell_size(read.taken);
-    tell_card(read.signature);
+    tell_verdict(rt, verdict);
+    tell_size(rt, read.taken);
+    tell_card(rt, read.signature);
 }
 
-pub fn call(op: u64, values: &[u8]) {
+pub fn call(rt: &HostRuntime, op: u64, values: &[u8]) {
     match op {
-        1 => tell_building(Builder::begin(word(values, 0), key(values, 1))),
-        2 => tell_building(builder(values).push(byte(values, BUILDER))),
-        3 => tell_finished(builder(values).finish()),
-        5 => tell_read(read_signature(buffer(values))),
-        6 => tell_finished(make(buffer(values), key(past_buffer(values), 0))),
-        8 => tell_whether(builder(values).fits()),
-        9 => tell_whether(card(values).fits()),
-        10 => tell_word(levels(word(values, 0))),
-        11 => tell_word(prefix_length(word(values, 0), word(values, 1))),
-        12 => tell_whether(running_fits(number(values, 0), print(values, 1))),
-        13 => tell_key(key_of(number(values, 0))),
-        4 | 7 => records::call(op, values),
+        1 => tell_building(rt, Builder::begin(word(values, 0), key(values, 1))),
+        2 => tell_building(rt, builder(values).push(byte(values, BUILDER))),
+        3 => tell_finished(rt, builder(values).finish()),
+        5 => tell_read(rt, read_signature(buffer(values))),
+        6 => tell_finished(rt, make(buffer(values), key(past_buffer(values), 0))),
+        8 => tell_whether(rt, builder(values).fits()),
+        9 => tell_whether(rt, card(values).fits()),
+        10 => tell_word(rt, levels(word(values, 0))),
+        11 => tell_word(rt, prefix_length(word(values, 0), word(values, 1))),
+        12 => tell_whether(rt, running_fits(number(values, 0), print(values, 1))),
+        13 => tell_key(rt, key_of(number(values, 0))),
+        4 | 7 => records::call(rt, op, values),
         _ => {}
     }
 }

@@ -54,12 +54,12 @@ fn last(op: u64, values: &[u8]) -> &[u8] {
     }
 }
 
-pub fn call(op: u64, values: &[u8]) {
+pub fn call(rt: &HostRuntime, op: u64, values: &[u8]) {
     let mut room = [0u8; LENT];
     let lent = lend(last(op, values), &mut room);
     let written = written(op, values, lent);
     let verdict = written.verdict;
-    tell_verdict(verdict);
-    tell_size(written.used);
-    tell_buffer(lent);
+    tell_verdict(rt, verdict);
+    tell_size(rt, written.used);
+    tell_buffer(rt, lent);
 }

@@ -14,39 +14,39 @@ const BEFORE_STAGES: u32 = WATCH + MARK;
 
 const BEFORE_LIST: u32 = 2 + ANSWER;
 
-fn tell_walk(walk: Walk) {
+fn tell_walk(rt: &HostRuntime, walk: Walk) {
     let stages = walk.stages;
-    tell_answer(walk.answer);
-    tell_stages(stages);
+    tell_answer(rt, walk.answer);
+    tell_stages(rt, stages);
 }
 
 // The walk of a card at a mark, under the powers of a key; behind the card the mark, the key, the newcomer and the stages.
-fn walk(values: &[u8]) {
+fn walk(rt: &HostRuntime, values: &[u8]) {
     let signature = card(values);
     let rest = from(values, CARD);
     let now = mark(rest);
     let shifts = Powers::of(key(rest, 2), MAX_LENGTH).shifts(signature.length);
     let round = Round { signature, now };
-    tell_walk(climb(round, shifts, mark(from(rest, 3)), stages(from(rest, 5))));
+    tell_walk(rt, climb(round, shifts, mark(from(rest, 3)), stages(from(rest, 5))));
 }
 
-fn note(values: &[u8]) {
+fn note(rt: &HostRuntime, values: &[u8]) {
     let mut room = [0u64; LIST];
     let notes = lend_list(from(values, BEFORE_LIST), &mut room);
     let at = number(values, 0) as usize;
-    tell_size(put_answer(notes, at, number(values, 1), answer(from(values, 2))));
-    tell_list(notes);
+    tell_size(rt, put_answer(notes, at, number(values, 1), answer(from(values, 2))));
+    tell_list(rt, notes);
 }
 
-pub fn call(op: u64, values: &[u8]) {
+pub fn call(rt: &HostRuntime, op: u64, values: &[u8]) {
     match op {
-        28 => tell_watch(watch(values).moved(
+        28 => tell_watch(rt, watch(values).moved(
             mark(from(values, WATCH)),
             stages(from(values, BEFORE_STAGES)),
         )),
-        29 => walk(values),
-        30 => tell_whether(answer(values).is_silent()),
-        31 => note(values),
+        29 => walk(rt, values),
+        30 => tell_whether(rt, answer(values).is_silent()),
+        31 => note(rt, values),
         _ => {}
     }
 }

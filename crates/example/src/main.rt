@@ -8,20 +8,19 @@ use checkpoint_save::save;
 use fingerprint::Key;
 use matcher::Matcher;
 use rack::{CARDS, Rack, Reports};
+use std::io;
 use walk::Ring;
 
 // A ring at byte t.
-fn say(t: u64, ring: Ring) {
+fn say(rt: &HostRuntime, t: u64, ring: Ring) -> io::Result<()> {
     if let Ring::At(start) = ring {
-        io::print_decimal(1, start);
-        io::write_all(1, b" rings at byte ");
-        io::print_decimal(1, t);
-        io::write_all(1, b"\n");
+        println!(rt; "{start} rings at byte {t}")?;
     }
+    Ok(())
 }
 
 // The watch with these bytes taken; each ring is said.
-fn take(watch: Matcher, bytes: &[u8]) -> Matcher {
+fn take(rt: &HostRuntime, watch: Matcher, bytes: &[u8]) -> io::Result<Matcher> {
     let mut w = watch;
     let mut i: usize = 0;
     while i < bytes.len() {
@@ -29,65 +28,66 @@ fn take(watch: Matcher, bytes: &[u8]) -> Matcher {
         w = stroke.matcher;
         let answer = stroke.answer;
         let ring = answer.ring;
-        say(w.now.at, ring);
+        say(rt, w.now.at, ring)?;
         i = i + 1;
     }
-    w
+    Ok(w)
 }
 
 // The name under which there is a ring.
-fn say_name(name: u16, ring: Ring) {
+fn say_name(rt: &HostRuntime, name: u16, ring: Ring) -> io::Result<()> {
     if let Ring::At(_) = ring {
-        io::write_all(1, b"name ");
-        io::print_decimal(1, name as u64);
-        io::write_all(1, b": ");
+        print!(rt; "name {name}: ")?;
     }
+    Ok(())
 }
 
 // The rings of all names at byte t, by rising name.
-fn say_all(t: u64, reports: Reports) {
+fn say_all(rt: &HostRuntime, t: u64, reports: Reports) -> io::Result<()> {
     let mut i: u32 = 0;
     while i < CARDS {
         let report = reports.reports[i as usize];
         let answer = report.answer;
         let ring = answer.ring;
-        say_name(report.name, ring);
-        say(t, ring);
+        say_name(rt, report.name, ring)?;
+        say(rt, t, ring)?;
         i = i + 1;
     }
+    Ok(())
 }
 
 // The rack with these bytes taken.
-fn take_all(before: Rack, bytes: &[u8]) -> Rack {
+fn take_all(rt: &HostRuntime, before: Rack, bytes: &[u8]) -> io::Result<Rack> {
     let mut rack = before;
     let mut i: usize = 0;
     while i < bytes.len() {
         let struck = rack.stroke(bytes[i]);
         rack = struck.rack;
         let reports = struck.reports;
-        say_all(rack.now.at, reports);
+        say_all(rt, rack.now.at, reports)?;
         i = i + 1;
     }
-    rack
+    Ok(rack)
 }
 
 // Two passages on one line; the second is put in later, and is matched from there on.
-fn two_passages() {
+fn two_passages(rt: &HostRuntime) -> io::Result<()> {
     let key = Key::new(48271);
     let empty = Rack::begin(key).rack;
     let one = empty.put_in(7, make(b"ding dong", key).signature).rack;
-    let begun = take_all(one, b"dong ding dong ");
+    let begun = take_all(rt, one, b"dong ding dong ")?;
     let two = begun.put_in(3, make(b"ng ding", key).signature).rack;
-    take_all(two, b"ding dong ding dong");
+    take_all(rt, two, b"ding dong ding dong")?;
+    Ok(())
 }
 
-fn main() {
+fn main(rt: HostRuntime) -> io::Result<()> {
     let card = make(b"ding dong ding ", Key::new(48271)).signature;
     let fresh = Matcher::start(card).matcher;
-    let before = take(fresh, b"dong ding dong d");
+    let before = take(&rt, fresh, b"dong ding dong d")?;
     let mut buffer = [0u8; 750];
     save(before, &mut buffer);
     let resumed = restore(card, &buffer).matcher;
-    take(resumed, b"ing dong ding ding dong");
-    two_passages();
+    take(&rt, resumed, b"ing dong ding ding dong")?;
+    two_passages(&rt)
 }

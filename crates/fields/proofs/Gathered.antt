@@ -9,7 +9,7 @@ use native.Mathlib.Numerals.{add-one}
 use native.Mathlib.Omega.{arith}
 use lib.ListN.{length, take, drop, length-append}
 use Rattle.fields.specs.Fields.{Field, widths, size, bytes_of, values_at, EachFits, gathered, stamped}
-use Rattle.fields.specs.Calls.{put_at, put_each}
+use Rattle.fields.specs.Calls.{put_each}
 use Rattle.fields.proofs.Laws.{length-bytes, bytes-append, size-append, part_of, values-part, fit_append, put-field}
 use Rattle.fields.proofs.Pasted.{length-pasted, pasted-none, pasted-pasted}
 

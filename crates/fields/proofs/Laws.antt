@@ -82,10 +82,13 @@ fields_back front (f ∷ fields) tail fit =
     let place : length (front ++ first) ≡ length front + f.width =
     length-append front first ∙ ap (λ (n : ℕ). length front + n) (length-number f.width f.value)
     in
-    let same : bytes_of (f ∷ fields) ++ tail ≡ first ++ (bytes_of fields ++ tail) = append_assoc first (bytes_of fields) tail in
-    rw (same, number-back front f.width f.value (bytes_of fields ++ tail) fit.0)
-    (ap (λ (l : List ℕ). f.value ∷ l)
-    (rw (place, append_assoc) at (fields_back (front ++ first) fields tail fit.1)))
+    let rest : List ℕ = bytes_of fields ++ tail in
+    let same : bytes_of (f ∷ fields) ++ tail ≡ first ++ rest = append_assoc first (bytes_of fields) tail in
+    let next : values_at (front ++ (first ++ rest)) (length front + f.width) (widths fields) ≡ values fields =
+    rw (place, append_assoc) at (fields_back (front ++ first) fields tail fit.1)
+    in
+    ap (λ (s : List ℕ). values_at (front ++ s) (length front) (widths (f ∷ fields))) same
+    ∙ rw (number-back front f.width f.value rest fit.0) (ap (λ (l : List ℕ). f.value ∷ l) next)
 
 -- A field is written where there is room for it.
 pub put-field :

@@ -5,6 +5,10 @@
 
 use fields::Width;
 use fingerprint::{Fingerprint, Key};
+use std::io;
+
+// The most bytes of all cases.
+const ROOM: usize = 65536;
 
 // How many bytes a case has.
 const CASE: usize = 16;
@@ -28,25 +32,25 @@ fn turned(r: u32, n: u64, turns: u32) -> u32 {
 }
 
 // The line of a case.
-fn say(case: &[u8]) {
+fn say(rt: &HostRuntime, case: &[u8]) -> io::Result<()> {
     let low = word(case, 4) as u64;
     let high = word(case, 8) as u64;
     let result = turned(word(case, 0), low + high * 4294967296, word(case, 12));
-    io::print_decimal(1, result as u64);
-    io::write_all(1, b"\n");
+    println!(rt; "{result}")
 }
 
 // The lines of all cases that are whole.
-fn say_all(cases: &[u8]) {
+fn say_all(rt: &HostRuntime, cases: &[u8]) -> io::Result<()> {
     let mut i: usize = 0;
     while i < cases.len() / CASE {
-        say(&cases[i * CASE..]);
+        say(rt, &cases[i * CASE..])?;
         i = i + 1;
     }
+    Ok(())
 }
 
-fn main() {
-    let mut input = io::large_buffer();
-    let n = io::read_full(0, &mut input);
-    say_all(&input[..n]);
+fn main(rt: HostRuntime) -> io::Result<()> {
+    let mut input = [0u8; ROOM];
+    let got = descriptor::fill(&mut rt.stdin(), &mut input);
+    say_all(&rt, &input[..got.count])
 }

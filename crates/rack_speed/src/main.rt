@@ -9,6 +9,7 @@ use matcher::Matcher;
 use rack::{Rack, Reports};
 use refusal::Verdict;
 use signature::Signature;
+use std::io;
 use walk::Ring;
 
 // As many cards as a rack holds.
@@ -23,7 +24,9 @@ const TOP_NAME: u16 = 100;
 // Rung starts are added up modulo this number.
 const MODULUS: u64 = 1000003;
 
-// Chunks of 65,536 bytes that hold more than a stream may.
+// The bytes of a chunk of the input, and as many chunks as hold more than a stream may.
+const CHUNK: usize = 65536;
+
 const CHUNKS: u32 = 16777217;
 
 // What stands before the stream: whether lone watches are wanted, the cards, and how many bytes it takes; whether it could be read.
@@ -92,7 +95,7 @@ fn read_front(input: &[u8]) -> Front {
             let card = read.signature;
             ok = ok && accepted(verdict);
             cards[i] = card;
-            taken = std::num::wrapping_add_usize(taken, read.taken);
+            taken = taken.wrapping_add(read.taken);
         }
         i = i + 1;
     }
@@ -138,7 +141,7 @@ fn rack_of(front: Front) -> Rack {
         if i < front.many {
             rack = rack.put_in(name, card).rack;
         }
-        name = std::num::wrapping_sub_u16(name, 1);
+        name = name.wrapping_sub(1);
         i = i + 1;
     }
     rack
@@ -147,14 +150,14 @@ fn rack_of(front: Front) -> Rack {
 impl Sums {
     fn with_bytes(self, n: usize) -> Sums {
         Sums {
-            bytes: std::num::wrapping_add_u64(self.bytes, n as u64),
+            bytes: self.bytes.wrapping_add(n as u64),
             ..self
         }
     }
 
     fn with_comparisons(self, n: u32) -> Sums {
         Sums {
-            comparisons: std::num::wrapping_add_u64(self.comparisons, n as u64),
+            comparisons: self.comparisons.wrapping_add(n as u64),
             ..self
         }
     }
@@ -162,7 +165,7 @@ impl Sums {
     fn with_ring(self, ring: Ring) -> Sums {
         if let Ring::At(start) = ring {
             return Sums {
-                rings: std::num::wrapping_add_u64(self.rings, 1),
+                rings: self.rings.wrapping_add(1),
                 starts: (self.starts % MODULUS + start % MODULUS) % MODULUS,
                 ..self
             };
@@ -243,31 +246,30 @@ impl Run {
 }
 
 // Takes the rest of the input, chunk by chunk.
-fn read_on(first: Run, input: &mut [u8]) -> Run {
+fn read_on(rt: &HostRuntime, first: Run, input: &mut [u8]) -> Run {
     let mut run = first;
     let mut chunks: u32 = 0;
     while chunks < CHUNKS {
-        let n = io::read_full(0, input);
-        if n == 0 {
+        let got = descriptor::fill(&mut rt.stdin(), input);
+        if got.count == 0 {
             return run;
         }
-        run = run.take(&input[..n]);
+        run = run.take(&input[..got.count]);
         chunks = chunks + 1;
     }
     run
 }
 
 // A number, and what stands behind it.
-fn say(n: u64, text: &[u8]) {
-    io::print_decimal(1, n);
-    io::write_all(1, text);
+fn say(rt: &HostRuntime, n: u64, text: &str) -> io::Result<()> {
+    print!(rt; "{n}{text}")
 }
 
-fn say_sums(sums: Sums) {
-    say(sums.bytes, b" ");
-    say(sums.comparisons, b" ");
-    say(sums.rings, b" ");
-    say(sums.starts, b"\n");
+fn say_sums(rt: &HostRuntime, sums: Sums) -> io::Result<()> {
+    say(rt, sums.bytes, " ")?;
+    say(rt, sums.comparisons, " ")?;
+    say(rt, sums.rings, " ")?;
+    say(rt, sums.starts, "\n")
 }
 
 // The run before the stream's first byte.
@@ -287,16 +289,15 @@ fn begin(front: Front) -> Run {
     }
 }
 
-fn main() {
-    let mut input = io::large_buffer();
-    let n = io::read_full(0, &mut input);
-    let chunk = &input[..n];
+fn main(rt: HostRuntime) -> io::Result<()> {
+    let mut input = [0u8; CHUNK];
+    let got = descriptor::fill(&mut rt.stdin(), &mut input);
+    let chunk = &input[..got.count];
     let front = read_front(chunk);
     if !front.ok {
-        io::write_all(1, b"\n");
-        return;
+        return println!(rt; "");
     }
     let first = begin(front).take(behind(chunk, front.taken));
-    let run = read_on(first, &mut input);
-    say_sums(run.sums);
+    let run = read_on(&rt, first, &mut input);
+    say_sums(&rt, run.sums)
 }

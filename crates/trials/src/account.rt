@@ -83,7 +83,7 @@ fn set_all_aside(
 // The ring, whose start must be new; in the digest it is 0, or one more than the start.
 fn hear(ring: Ring, stream: &[u8], pattern: &[u8], key: u32, marks: &mut [u8], tally: &mut [u32]) {
     if let Ring::At(start) = ring {
-        mix(tally, std::num::wrapping_add_u64(start, 1));
+        mix(tally, start.wrapping_add(1));
         expect(tally, at(marks, start as usize) == 0);
         put(marks, start as usize, RUNG);
         rung(stream, pattern, key, start as usize, tally);
@@ -103,7 +103,7 @@ pub(crate) fn account(
 ) {
     let ring = answer.ring;
     let comparisons = answer.comparisons;
-    let taken_off = std::num::wrapping_sub_u32(comparisons, 1);
+    let taken_off = comparisons.wrapping_sub(1);
     expect(tally, taken_off <= stages(pattern.len()));
     add(tally, COMPARISONS, comparisons);
     mix(tally, comparisons as u64);

@@ -30,5 +30,5 @@ pub(crate) fn part(bytes: &[u8], from: usize, n: usize) -> &[u8] {
 
 // The sum of two places; no trial comes near the end of the numbers.
 pub(crate) fn plus(a: usize, b: usize) -> usize {
-    std::num::wrapping_add_usize(a, b)
+    a.wrapping_add(b)
 }

@@ -7,7 +7,7 @@
 use crate::bytes::{front, part, plus};
 use crate::tally::{FAILURES, PLACES, count, item, say};
 use fields::{Width, number_at};
-use libc::STDIN_FILENO;
+use std::io;
 
 mod account; // account.rt: an answer, held against demand 3
 mod bytes; // bytes.rt: bytes at places
@@ -41,7 +41,7 @@ fn end_of(input: &[u8], at: usize) -> usize {
 }
 
 // Tries the case at a place, prints its line and hands back the failures.
-fn case(input: &[u8], at: usize) -> u32 {
+fn case(rt: &HostRuntime, input: &[u8], at: usize) -> io::Result<u32> {
     let mut tally = [0u32; PLACES];
     let key = (word(input, at) % 4294967296) as u32;
     let first = plus(at, HEAD);
@@ -49,40 +49,40 @@ fn case(input: &[u8], at: usize) -> u32 {
     let behind = plus(first, pattern.len());
     let stream = part(input, behind, word(input, plus(at, 8)) as usize);
     passes::all(pattern, stream, key, &mut tally);
-    item(b"", pattern.len() as u64);
-    item(b" ", stream.len() as u64);
-    say(&tally);
-    count(&tally, FAILURES)
+    item(rt, "", pattern.len() as u64)?;
+    item(rt, " ", stream.len() as u64)?;
+    say(rt, &tally)?;
+    Ok(count(&tally, FAILURES))
 }
 
 // Case after case; hands back the failures. A case that is cut short or too long is one, and the last.
-fn run(input: &[u8]) -> u32 {
+fn run(rt: &HostRuntime, input: &[u8]) -> io::Result<u32> {
     let mut failures: u32 = 0;
     let mut at: usize = 0;
     while at < input.len() {
         let next = end_of(input, at);
         if next <= at {
-            io::write_all(1, b"a case is cut short or too long\n");
-            return std::num::wrapping_add_u32(failures, 1);
+            println!(rt; "a case is cut short or too long")?;
+            return Ok(failures.wrapping_add(1));
         }
-        failures = std::num::wrapping_add_u32(failures, case(input, at));
+        failures = failures.wrapping_add(case(rt, input, at)?);
         at = next;
     }
-    failures
+    Ok(failures)
 }
 
 // Reads the cases and tries them.
-fn serve(room: &mut [u8; ROOM]) {
-    io::write_all(
-        1,
-        b"pattern stream passes cuts occurrences missed rings false sets aside comparisons digest failures\n",
-    );
-    let got = descriptor::fill(STDIN_FILENO, room);
-    item(b"failures ", run(front(room, got.count)) as u64);
-    io::write_all(1, b"\n");
+fn serve(rt: &HostRuntime, room: &mut [u8; ROOM]) -> io::Result<()> {
+    println!(
+        rt;
+        "pattern stream passes cuts occurrences missed rings false sets aside comparisons digest failures"
+    )?;
+    let got = descriptor::fill(&mut rt.stdin(), room);
+    item(rt, "failures ", run(rt, front(room, got.count))? as u64)?;
+    println!(rt; "")
 }
 
-fn main() {
+fn main(rt: HostRuntime) -> io::Result<()> {
     let mut room = [0u8; ROOM];
-    serve(&mut room);
+    serve(&rt, &mut room)
 }

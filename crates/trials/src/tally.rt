@@ -1,4 +1,5 @@
 // Counters of a case, in a slice of numbers, each at its place. They are printed in this order.
+use std::io;
 
 // Times that the stream was taken through, and the cuts in them.
 pub const PASSES: usize = 0;
@@ -48,7 +49,7 @@ pub(crate) fn set(tally: &mut [u32], i: usize, to: u32) {
 
 // Adds to a counter.
 pub(crate) fn add(tally: &mut [u32], i: usize, by: u32) {
-    let sum = std::num::wrapping_add_u32(count(tally, i), by);
+    let sum = count(tally, i).wrapping_add(by);
     set(tally, i, sum);
 }
 
@@ -67,17 +68,16 @@ pub(crate) fn mix(tally: &mut [u32], value: u64) {
 }
 
 // Words, and a number behind them.
-pub(crate) fn item(text: &[u8], n: u64) {
-    io::write_all(1, text);
-    io::print_decimal(1, n);
+pub(crate) fn item(rt: &HostRuntime, text: &str, n: u64) -> io::Result<()> {
+    print!(rt; "{text}{n}")
 }
 
 // The counters, and the line's end.
-pub(crate) fn say(tally: &[u32]) {
+pub(crate) fn say(rt: &HostRuntime, tally: &[u32]) -> io::Result<()> {
     let mut i: usize = 0;
     while i < PRINTED {
-        item(b" ", count(tally, i) as u64);
+        item(rt, " ", count(tally, i) as u64)?;
         i = i + 1;
     }
-    io::write_all(1, b"\n");
+    println!(rt; "")
 }

@@ -6,10 +6,10 @@ use Rattle.driver.proofs.run.Statement.{statement}
 use Rattle.driver.proofs.run.Tie as tie
 
 abbrev invariant-loop : tie.invariant-loop
-invariant-loop input at₀ at = Unit {0}
+invariant-loop rt input at₀ at = Unit {0}
 
 abbrev decreases-loop : tie.decreases-loop
-decreases-loop input at₀ at = length input - at
+decreases-loop rt input at₀ at = length input - at
 
 pub run_spec : {M : Type 1} → statement M
 run_spec =

@@ -8,10 +8,10 @@ pub returns-in_default-clause-answer : goal.returns-in_default-clause-answer
 returns-in_default-clause-answer c =
     let found = c.field_at in
     let same = ap number_of (sym c.in_default.is) in
-     same ∙ ap number_of found.ensures.answer ∙ field-number _ _ _
+    same ∙ ap number_of found.ensures.answer ∙ field-number _ _ _
 
 pub returns-clause-answer : goal.returns-clause-answer
 returns-clause-answer c =
     let found = c.field_at in
     let same = ap number_of (sym c.in-Number.is) in
-     same ∙ ap number_of found.ensures.answer ∙ field-number _ _ _
+    same ∙ ap number_of found.ensures.answer ∙ field-number _ _ _

@@ -1,6 +1,4 @@
 -- `fields::put` meets its contract.
-use mathlib.Core.Path.{sym, ◌∙◌}
-use borrow.Author.Tests.{leb-true}
 use Rattle.fields.specs.Calls.{put_at}
 use Rattle.fields.proofs.Room.{told}
 use Rattle.fields.proofs.put.Goals as goal

@@ -1,10 +1,7 @@
 -- `fields::read` meets its contract: the bytes passed, from the last down, are the number's high bytes.
 use Prim.Native.Nat.{◌+◌, ◌-◌, ◌^◌, ◌≤◌, ◌<◌}
-use mathlib.Core.Path.{◌≡◌, refl}
-use native.Mathlib.Omega.{arith}
-use lib.ListN.{get_or}
+use mathlib.Core.Path.{◌≡◌}
 use Rattle.fields.specs.Fields.{number_from}
-use Rattle.fields.proofs.Numbers.{number_more, number-room, number-below}
 use Rattle.fields.proofs.read.Given as goal
 
 abbrev pub invariant-loop-left : goal.invariant-loop-left

@@ -1,10 +1,9 @@
 -- `fields::write` meets its contract: behind the bytes written, those of the rest are still to come.
-use Prim.Native.Nat.{◌+◌, ◌-◌, ◌%◌, ◌≤◌}
-use mathlib.Core.Path.{◌≡◌, refl, sym, ◌∙◌}
-use native.Mathlib.Nat.{add-zero, sub-zero}
+use Prim.Native.Nat.{◌+◌, ◌-◌, ◌%◌}
+use mathlib.Core.Path.{◌≡◌, sym, ◌∙◌}
 use native.Mathlib.Omega.{arith}
-use lib.ListN.{length, length-set}
-use Rattle.fields.specs.Fields.{little_endian, pasted}
+use lib.ListN.{length-set}
+use Rattle.fields.specs.Fields.{little_endian}
 use Rattle.fields.proofs.Pasted.{pasted-none, number_put}
 use Rattle.fields.proofs.write.Goals as goal
 

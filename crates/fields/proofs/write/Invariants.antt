@@ -1,11 +1,8 @@
 -- `fields::write` meets its contract: behind the bytes written, those of the rest are still to come.
-use Prim.Native.Nat.{◌+◌, ◌-◌, ◌%◌, ◌≤◌}
-use mathlib.Core.Path.{◌≡◌, refl, sym, ◌∙◌}
-use native.Mathlib.Nat.{add-zero, sub-zero}
-use native.Mathlib.Omega.{arith}
-use lib.ListN.{length, length-set}
+use Prim.Native.Nat.{◌+◌, ◌-◌, ◌≤◌}
+use mathlib.Core.Path.{◌≡◌}
+use lib.ListN.{length}
 use Rattle.fields.specs.Fields.{little_endian, pasted}
-use Rattle.fields.proofs.Pasted.{pasted-none, number_put}
 use Rattle.fields.proofs.write.Given as goal
 
 abbrev pub invariant-loop-i : goal.invariant-loop-i

@@ -6,10 +6,10 @@ use Rattle.driver_answers.proofs.numbers.tell_list.Statement.{statement}
 use Rattle.driver_answers.proofs.numbers.tell_list.Tie as tie
 
 abbrev invariant-loop : tie.invariant-loop
-invariant-loop numbers i₀ i = Unit {0}
+invariant-loop rt numbers i₀ i = Unit {0}
 
 abbrev decreases-loop : tie.decreases-loop
-decreases-loop numbers i₀ i = length numbers - i
+decreases-loop rt numbers i₀ i = length numbers - i
 
 pub tell-list-spec : {M : Type 1} → statement M
 tell-list-spec =

@@ -5,10 +5,10 @@ use Rattle.driver_answers.proofs.values.tell_sets.Statement.{statement}
 use Rattle.driver_answers.proofs.values.tell_sets.Tie as tie
 
 abbrev invariant-loop : tie.invariant-loop
-invariant-loop sets i₀ i = Unit {0}
+invariant-loop rt sets i₀ i = Unit {0}
 
 abbrev decreases-loop : tie.decreases-loop
-decreases-loop sets i₀ i = 20 - i
+decreases-loop rt sets i₀ i = 20 - i
 
 pub tell-sets-spec : {M : Type 1} → statement M
 tell-sets-spec =

@@ -5,10 +5,10 @@ use Rattle.driver_answers.proofs.values.tell_stages.Statement.{statement}
 use Rattle.driver_answers.proofs.values.tell_stages.Tie as tie
 
 abbrev invariant-loop : tie.invariant-loop
-invariant-loop stages i₀ i = Unit {0}
+invariant-loop rt stages i₀ i = Unit {0}
 
 abbrev decreases-loop : tie.decreases-loop
-decreases-loop stages i₀ i = 20 - i
+decreases-loop rt stages i₀ i = 20 - i
 
 pub tell-stages-spec : {M : Type 1} → statement M
 tell-stages-spec =

@@ -5,10 +5,10 @@ use Rattle.driver_parts.proofs.prints.tell_shifts.Statement.{statement}
 use Rattle.driver_parts.proofs.prints.tell_shifts.Tie as tie
 
 abbrev invariant-loop : tie.invariant-loop
-invariant-loop print shifts i₀ i = Unit {0}
+invariant-loop rt print shifts i₀ i = Unit {0}
 
 abbrev decreases-loop : tie.decreases-loop
-decreases-loop print shifts i₀ i = 21 - i
+decreases-loop rt print shifts i₀ i = 21 - i
 
 pub tell-shifts-spec : {M : Type 1} → statement M
 tell-shifts-spec =

@@ -5,10 +5,10 @@ use Rattle.driver_parts.proofs.searches.tell_no_labels.Statement.{statement}
 use Rattle.driver_parts.proofs.searches.tell_no_labels.Tie as tie
 
 abbrev invariant-loop : tie.invariant-loop
-invariant-loop labels i₀ i = Unit {0}
+invariant-loop rt labels i₀ i = Unit {0}
 
 abbrev decreases-loop : tie.decreases-loop
-decreases-loop labels i₀ i = 16 - i
+decreases-loop rt labels i₀ i = 16 - i
 
 pub tell-no-labels-spec : {M : Type 1} → statement M
 tell-no-labels-spec =

@@ -6,10 +6,10 @@ use Rattle.driver_watches.proofs.watches.strokes.Statement.{statement}
 use Rattle.driver_watches.proofs.watches.strokes.Tie as tie
 
 abbrev invariant-loop : tie.invariant-loop
-invariant-loop stream w₀ i₀ w i = Unit {0}
+invariant-loop rt stream w₀ i₀ w i = Unit {0}
 
 abbrev decreases-loop : tie.decreases-loop
-decreases-loop stream w₀ i₀ w i = length stream - i
+decreases-loop rt stream w₀ i₀ w i = length stream - i
 
 pub strokes-spec : {M : Type 1} → statement M
 strokes-spec =
