@@ -1,7 +1,6 @@
 -- `rack_place::clear_prints` meets its contract.
 use mathlib.Core.Path.{sym, ◌∙◌}
 use native.Mathlib.Omega.{arith}
-use borrow.Author.Tests.{not-true, not-false}
 use lib.ListN.{get_or}
 use Rattle.lists.proofs.Laws.{every-none, every_more, every-fails}
 use Rattle.fingerprint.specs.Fingerprint.{same, empty}
@@ -17,7 +16,7 @@ returns-then-not-clear_print c =
     let args = c.args in
     let loop = c.loop-i in
     sym (every-fails (λ j. same (get_or args.prints j empty) empty) places loop.i (omega arith)
-    (sym clear-print.ensures ∙ not-true _ c.if-not-clear_print.true-raw))
+    (sym clear-print.ensures ∙ c.if-not-clear_print.true))
 
 pub loop-i-preserved : goal.loop-i-preserved
 loop-i-preserved c =
@@ -26,5 +25,5 @@ loop-i-preserved c =
     let loop = c.loop-i in (
       omega arith,
       every_more (λ j. same (get_or args.prints j empty) empty) loop.i loop.invariant.1
-          (sym clear-print.ensures ∙ not-false _ c.if-not-clear_print.false-raw),
+          (sym clear-print.ensures ∙ c.if-not-clear_print.false),
     )

@@ -1,7 +1,6 @@
 -- `rack_place::clear_stages` meets its contract.
 use mathlib.Core.Path.{sym, ◌∙◌}
 use native.Mathlib.Omega.{arith}
-use borrow.Author.Tests.{not-true, not-false}
 use Rattle.lists.proofs.Laws.{every-none, every_more, every-fails}
 use Rattle.stage.specs.Stages.{stage_count, stage_at}
 use Rattle.rack_place.specs.Place.{clear_stage}
@@ -16,7 +15,7 @@ returns-then-not-clear_stage c =
     let args = c.args in
     let loop = c.loop-i in
     sym (every-fails (λ j. clear_stage (stage_at args.stages j)) stage_count loop.i (omega arith)
-    (sym clear-stage.ensures ∙ not-true _ c.if-not-clear_stage.true-raw))
+    (sym clear-stage.ensures ∙ c.if-not-clear_stage.true))
 
 pub loop-i-preserved : goal.loop-i-preserved
 loop-i-preserved c =
@@ -25,5 +24,5 @@ loop-i-preserved c =
     let loop = c.loop-i in (
       omega arith,
       every_more (λ j. clear_stage (stage_at args.stages j)) loop.i loop.invariant.1
-          (sym clear-stage.ensures ∙ not-false _ c.if-not-clear_stage.false-raw),
+          (sym clear-stage.ensures ∙ c.if-not-clear_stage.false),
     )

@@ -1,5 +1,5 @@
 -- `rack_place::Place::is_clear` meets its contract.
-use borrow.Author.Tests.{eq-eqb, ne_eqb, not-true, not-false}
+use borrow.Author.Tests.{eq-eqb, ne_eqb}
 use Rattle.rack_place.specs.Place.{is_clear}
 use Rattle.rack_place.proofs.Place.is_clear.Goals as goal
 
@@ -29,7 +29,7 @@ returns-then-not-equals c =
       eq-eqb _ _ c.if-signature-ne0.false,
       ← none.ensures,
       ← equals.ensures,
-      not-true equals.result c.if-not-equals.true-raw,
+      c.if-not-equals.true,
     )
 
 pub returns-then-not-clear_prints : goal.returns-then-not-clear_prints
@@ -43,9 +43,9 @@ returns-then-not-clear_prints c =
       eq-eqb _ _ c.if-signature-ne0.false,
       ← none.ensures,
       ← equals.ensures,
-      not-false equals.result c.if-not-equals.false-raw,
+      c.if-not-equals.false,
       ← c.clear_prints.ensures,
-      not-true c.clear_prints.result c.if-not-clear_prints.true-raw,
+      c.if-not-clear_prints.true,
     )
 
 pub returns : goal.returns
@@ -65,8 +65,8 @@ returns c =
       eq-eqb _ _ if3.false,
       ← none.ensures,
       ← equals.ensures,
-      not-false equals.result if4.false-raw,
+      if4.false,
       ← clear-prints.ensures,
-      not-false clear-prints.result if5.false-raw,
+      if5.false,
     )
     c.clear_stages.ensures
