@@ -9,6 +9,7 @@ ghost use Rattle.card.specs.Outcome.{Carded};
 
 use card_core::{OVERLONG, key_of, write_card};
 use decimal::Parsed;
+use descriptor::Heard;
 use fingerprint::Key;
 use refusal::Verdict;
 use std::env::{Env, FillError};
@@ -101,7 +102,12 @@ fn make_card<R: io::Read, W: io::Write>(
 }
 
 // Says on standard error why there is no card.
-fn say(rt: &HostRuntime, outcome: Outcome) {
+fn say(
+    rt: &HostRuntime,
+    outcome: Outcome,
+    unread: Option<io::Error>,
+    unwritten: Option<io::Error>,
+) {
     let status = outcome.status;
     let verdict = outcome.verdict;
     match status {
@@ -109,12 +115,8 @@ fn say(rt: &HostRuntime, outcome: Outcome) {
         Status::Refused => {
             refusal_line::say(&mut rt.stderr(), verdict.number());
         }
-        Status::Unreadable => {
-            let _ = eprintln!(rt; "card: the passage cannot be read");
-        }
-        Status::Unwritable => {
-            let _ = eprintln!(rt; "card: the card cannot be written");
-        }
+        Status::Unreadable => descriptor::fail(rt, "card: the passage cannot be read", unread),
+        Status::Unwritable => descriptor::fail(rt, "card: the card cannot be written", unwritten),
     }
 }
 
@@ -146,12 +148,8 @@ fn main(rt: HostRuntime) {
     };
     let mut passage = passage_buffer();
     let mut out = [0u8; 4096];
-    let outcome = make_card(
-        &mut rt.stdin(),
-        &mut rt.stdout(),
-        key_of(number),
-        &mut passage,
-        &mut out,
-    );
-    say(&rt, outcome);
+    let mut from = Heard::new(rt.stdin());
+    let mut to = Heard::new(rt.stdout());
+    let outcome = make_card(&mut from, &mut to, key_of(number), &mut passage, &mut out);
+    say(&rt, outcome, from.error(), to.error());
 }

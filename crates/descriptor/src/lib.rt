@@ -5,6 +5,9 @@
 
 ghost use Rattle.descriptor.specs.Reads.{Reads, ReadOnce, Writes};
 
+mod heard;
+
+pub use heard::{Heard, fail};
 use std::io;
 
 // How many bytes were read, to the buffer's front, and whether no read failed.

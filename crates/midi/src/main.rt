@@ -6,6 +6,7 @@
 ghost use Rattle.midi.specs.Outcome.{Turned};
 
 use decimal::Parsed;
+use descriptor::Heard;
 use midi_file::Bells;
 use refusal::Verdict;
 use std::env::{Env, FillError};
@@ -117,7 +118,12 @@ fn say_overlong(rt: &HostRuntime) {
 }
 
 // Says on standard error why there are no strokes.
-fn say(rt: &HostRuntime, outcome: Outcome) {
+fn say(
+    rt: &HostRuntime,
+    outcome: Outcome,
+    unread: Option<io::Error>,
+    unwritten: Option<io::Error>,
+) {
     let status = outcome.status;
     let verdict = outcome.verdict;
     match status {
@@ -126,12 +132,12 @@ fn say(rt: &HostRuntime, outcome: Outcome) {
         Status::Refused => {
             refusal_line::say(&mut rt.stderr(), verdict.number());
         }
-        Status::Unreadable => {
-            let _ = eprintln!(rt; "midi: the file cannot be read");
-        }
-        Status::Unwritable => {
-            let _ = eprintln!(rt; "midi: the strokes cannot be written");
-        }
+        Status::Unreadable => descriptor::fail(rt, "midi: the file cannot be read", unread),
+        Status::Unwritable => descriptor::fail(
+            rt,
+            "midi: the strokes cannot be written",
+            unwritten,
+        ),
     }
 }
 
@@ -194,12 +200,14 @@ fn main(rt: HostRuntime) {
     };
     let mut file = [0u8; FILE_ROOM];
     let mut out = [0u8; STROKE_ROOM];
+    let mut from = Heard::new(rt.stdin());
+    let mut to = Heard::new(rt.stdout());
     let outcome = turn_within(
-        &mut rt.stdin(),
-        &mut rt.stdout(),
+        &mut from,
+        &mut to,
         Bells { lowest, highest },
         &mut file,
         &mut out,
     );
-    say(&rt, outcome);
+    say(&rt, outcome, from.error(), to.error());
 }

@@ -1,15 +1,18 @@
 // The printing program (document 01, "The printing program"). A read that fails and output that cannot be written are said on standard error.
 #![tactic(auto)]
 
+use descriptor::{Heard, fail};
 use report_loop::Status;
 
 fn main(rt: HostRuntime) {
-    let outcome = report_loop::run(&mut rt.stdin(), &mut rt.stdout());
+    let mut from = Heard::new(rt.stdin());
+    let mut to = Heard::new(rt.stdout());
+    let outcome = report_loop::run(&mut from, &mut to);
     let status = outcome.status;
     if let Status::Unreadable = status {
-        let _ = eprintln!(rt; "report: the input cannot be read");
+        fail(&rt, "report: the input cannot be read", from.error());
     }
     if let Status::Unwritable = status {
-        let _ = eprintln!(rt; "report: the output cannot be written");
+        fail(&rt, "report: the output cannot be written", to.error());
     }
 }

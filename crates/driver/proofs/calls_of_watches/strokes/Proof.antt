@@ -6,10 +6,10 @@ use Rattle.driver.proofs.calls_of_watches.strokes.Statement.{statement}
 use Rattle.driver.proofs.calls_of_watches.strokes.Tie as tie
 
 abbrev invariant-loop : tie.invariant-loop
-invariant-loop values rest stream w₀ i₀ w i = Unit {0}
+invariant-loop rt values rest stream w₀ i₀ w i = Unit {0}
 
 abbrev decreases-loop : tie.decreases-loop
-decreases-loop values rest stream w₀ i₀ w i = length stream - i
+decreases-loop rt values rest stream w₀ i₀ w i = length stream - i
 
 pub strokes-spec : {M : Type 1} → statement M
 strokes-spec =

@@ -5,10 +5,10 @@ use Rattle.driver.proofs.racks.tell_rack.Statement.{statement}
 use Rattle.driver.proofs.racks.tell_rack.Tie as tie
 
 abbrev invariant-loop : tie.invariant-loop
-invariant-loop rack i₀ i = Unit {0}
+invariant-loop rt rack i₀ i = Unit {0}
 
 abbrev decreases-loop : tie.decreases-loop
-decreases-loop rack i₀ i = 16 - i
+decreases-loop rt rack i₀ i = 16 - i
 
 pub tell-rack-spec : {M : Type 1} → statement M
 tell-rack-spec =

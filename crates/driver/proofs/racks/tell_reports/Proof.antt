@@ -5,10 +5,10 @@ use Rattle.driver.proofs.racks.tell_reports.Statement.{statement}
 use Rattle.driver.proofs.racks.tell_reports.Tie as tie
 
 abbrev invariant-loop : tie.invariant-loop
-invariant-loop reports i₀ i = Unit {0}
+invariant-loop rt reports i₀ i = Unit {0}
 
 abbrev decreases-loop : tie.decreases-loop
-decreases-loop reports i₀ i = 16 - i
+decreases-loop rt reports i₀ i = 16 - i
 
 pub tell-reports-spec : {M : Type 1} → statement M
 tell-reports-spec =

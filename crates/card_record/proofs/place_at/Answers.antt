@@ -1,0 +1,14 @@
+-- `card_record::place_at` meets its contract.
+use mathlib.Core.Path.{sym, ◌∙◌, ap}
+use borrow.Author.Tests.{le-leb}
+use Rattle.fingerprint.specs.Fingerprint.{print_of}
+use Rattle.record.specs.Layout.{print_from}
+use Rattle.card_record.proofs.Positions.{print-place}
+use Rattle.card_record.proofs.place_at.Goals as goal
+
+pub returns : goal.returns
+unfolding print_from
+returns c =
+    let a = c.args in
+    let place = print-place a.buf.now a.k a.i c.if-k-i.false in
+    rw (le-leb _ _ c.if-k-i.false) (c.print_at.ensures ∙ ap print_of (sym place))

@@ -1,0 +1,27 @@
+-- `card_record::put_prints` meets its contract: the fingerprints passed stand one behind another.
+use Prim.Native.Nat.{◌+◌, ◌*◌}
+use mathlib.Core.Path.{refl, ◌∙◌}
+use native.Mathlib.Omega.{arith}
+use Rattle.fields.specs.Fields.{size}
+use Rattle.fields.proofs.Gathered.{put-each, stamped-none, stamped-more}
+use Rattle.fingerprint.specs.Fingerprint.{print_numbers}
+use Rattle.record.specs.Layout.{print_fields_of}
+use Rattle.record.specs.Places.{print_size, print_place}
+use borrow.Author.Rules.{rules}
+use Rattle.card_record.proofs.put_prints.Goals as goal
+
+pub loop-i-init : goal.loop-i-init
+loop-i-init c =
+    (omega arith, refl, stamped-none c.args.buf.now print_place (print_fields_of c.args.prints))
+
+pub loop-i-preserved : goal.loop-i-preserved
+unfolding size print_numbers
+loop-i-preserved c =
+    let a = c.args in (
+      omega arith,
+      search rules,
+      c.put_print.ensures
+          ∙ put-each (print_fields_of a.prints c.loop-i.i) c.loop-i.buf (print_place + print_size * c.loop-i.i) (omega arith)
+          ∙ stamped-more a.buf.now print_place (print_fields_of a.prints) print_size (λ j. refl) c.loop-i.buf
+          c.loop-i.i (print_place + print_size * c.loop-i.i) (omega arith) (omega arith) c.loop-i.invariant.2,
+    )
