@@ -12,12 +12,18 @@ fn push<'a>(rt: &HostRuntime, values: &'a [u8]) -> &'a [u8] {
 }
 
 fn join<'a>(rt: &HostRuntime, values: &'a [u8]) -> &'a [u8] {
-    tell_print(rt, print(values, 0).join(key(values, 1), print(values, 2), number(values, 3)));
+    tell_print(
+        rt,
+        print(values, 0).join(key(values, 1), print(values, 2), number(values, 3)),
+    );
     from(values, 4)
 }
 
 fn cut<'a>(rt: &HostRuntime, values: &'a [u8]) -> &'a [u8] {
-    tell_print(rt, print(values, 0).cut(key(values, 1), print(values, 2), number(values, 3)));
+    tell_print(
+        rt,
+        print(values, 0).cut(key(values, 1), print(values, 2), number(values, 3)),
+    );
     from(values, 4)
 }
 

@@ -33,7 +33,10 @@ fn stroke<'a>(rt: &HostRuntime, values: &'a [u8]) -> &'a [u8] {
 }
 
 fn stroke_in_place<'a>(rt: &HostRuntime, values: &'a [u8]) -> &'a [u8] {
-    tell_stroke(rt, in_place::stroke_local(watch(values), byte(values, WATCH)));
+    tell_stroke(
+        rt,
+        in_place::stroke_local(watch(values), byte(values, WATCH)),
+    );
     from(values, AND_ONE)
 }
 
@@ -105,7 +108,10 @@ fn tell_turn(rt: &HostRuntime, turn: Turn) {
 fn stroke_shared<'a>(rt: &HostRuntime, values: &'a [u8]) -> &'a [u8] {
     let rest = from(values, WATCH);
     let powers = Powers::of(key(rest, 0), MAX_LENGTH);
-    tell_turn(rt, watch(values).stroke_shared(powers, number(rest, 1), byte(rest, 2)));
+    tell_turn(
+        rt,
+        watch(values).stroke_shared(powers, number(rest, 1), byte(rest, 2)),
+    );
     from(rest, 3)
 }
 

@@ -68,16 +68,25 @@ fn sizes(rt: &HostRuntime, wide: bool, t: u64, k: u32) {
 pub fn call(rt: &HostRuntime, op: u64, values: &[u8]) {
     let at = number(values, 0) as usize;
     match op {
-        96 => tell_found(rt, field_at(buffer(from(values, 2)), at, width(number(values, 1)))),
-        97 => tell(rt, number_at(buffer(from(values, 2)), at, width(number(values, 1)))),
+        96 => tell_found(
+            rt,
+            field_at(buffer(from(values, 2)), at, width(number(values, 1))),
+        ),
+        97 => tell(
+            rt,
+            number_at(buffer(from(values, 2)), at, width(number(values, 1))),
+        ),
         99 => tell_word(rt, word_at(buffer(from(values, 1)), at)),
         101 => tell_key(rt, key_at(buffer(from(values, 1)), at)),
         103 => tell_print(rt, print_at(buffer(from(values, 1)), at)),
-        106 => tell_verdict(rt, check_head(
-            buffer(from(values, 2)),
-            number(values, 0),
-            number(values, 1),
-        )),
+        106 => tell_verdict(
+            rt,
+            check_head(
+                buffer(from(values, 2)),
+                number(values, 0),
+                number(values, 1),
+            ),
+        ),
         107 => sizes(rt, flag(values, 0), number(values, 1), word(values, 2)),
         98 | 100 | 102 | 104 | 105 => altered(rt, op, values),
         _ => {}

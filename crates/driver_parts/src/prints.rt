@@ -42,7 +42,8 @@ fn table(values: &[u8]) -> Powers {
 
 fn call_of_powers(rt: &HostRuntime, op: u64, values: &[u8]) {
     match op {
-        73 => tell_power(rt, 
+        73 => tell_power(
+            rt,
             print(values, 4),
             power(values, 0, 1).times(power(values, 2, 3)),
         ),
@@ -59,13 +60,22 @@ pub fn call(rt: &HostRuntime, op: u64, values: &[u8]) {
     let one = print(values, 0);
     match op {
         64 => tell_print(rt, one.push(key(values, 1), byte(values, 2))),
-        65 => tell_print(rt, one.join(key(values, 1), print(values, 2), number(values, 3))),
-        66 => tell_print(rt, one.cut(key(values, 1), print(values, 2), number(values, 3))),
+        65 => tell_print(
+            rt,
+            one.join(key(values, 1), print(values, 2), number(values, 3)),
+        ),
+        66 => tell_print(
+            rt,
+            one.cut(key(values, 1), print(values, 2), number(values, 3)),
+        ),
         67 => tests(rt, one, print(values, 1)),
         68 => tell_power(rt, print(values, 2), power(values, 0, 1)),
         69 => tell_print(rt, Fingerprint::of_byte(byte(values, 0))),
         70 => tell_print(rt, one.join_by(print(values, 1), power(values, 2, 3))),
-        71 => tell_print(rt, one.join_times(print(values, 1), power(values, 2, 3), word(values, 4))),
+        71 => tell_print(
+            rt,
+            one.join_times(print(values, 1), power(values, 2, 3), word(values, 4)),
+        ),
         72 => tell_print(rt, one.cut_by(print(values, 1), power(values, 2, 3))),
         _ => call_of_powers(rt, op, values),
     }

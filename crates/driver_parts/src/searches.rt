@@ -39,14 +39,20 @@ fn nothing(rt: &HostRuntime) {
 pub fn call(rt: &HostRuntime, op: u64, values: &[u8]) {
     let rest = from(values, 1);
     match op {
-        112 => tell_whether(rt, occurs(
-            buffer(rest),
-            number(values, 0) as usize,
-            buffer(past_buffer(rest)),
-        )),
+        112 => tell_whether(
+            rt,
+            occurs(
+                buffer(rest),
+                number(values, 0) as usize,
+                buffer(past_buffer(rest)),
+            ),
+        ),
         113 => tell_word(rt, more(word(values, 0), word(values, 1), byte(values, 2))),
         114 => tell_word(rt, print_of(buffer(rest), word(values, 0))),
-        115 => tell_whether(rt, collides(buffer(rest), buffer(past_buffer(rest)), word(values, 0))),
+        115 => tell_whether(
+            rt,
+            collides(buffer(rest), buffer(past_buffer(rest)), word(values, 0)),
+        ),
         116 => tell_word(rt, naive_search::stages(number(values, 0) as usize)),
         120 => nothing(rt),
         _ => {}

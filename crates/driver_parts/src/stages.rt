@@ -41,10 +41,22 @@ pub fn call(rt: &HostRuntime, op: u64, values: &[u8]) {
     match op {
         80 => tell_stage(rt, stage(values).take_off(key(rest, 0))),
         81 => tell_entry(rt, stage(values).enter(key(rest, 0), mark(from(rest, 1)))),
-        82 => tests(rt, stage(values), word(rest, 0), word(rest, 1), number(rest, 2)),
-        83 => tell_whether(rt, stage(values).last_fits(Powers::of(key(rest, 0), MAX_LENGTH))),
+        82 => tests(
+            rt,
+            stage(values),
+            word(rest, 0),
+            word(rest, 1),
+            number(rest, 2),
+        ),
+        83 => tell_whether(
+            rt,
+            stage(values).last_fits(Powers::of(key(rest, 0), MAX_LENGTH)),
+        ),
         84 => tell_whether(rt, stage(values).listed_from(number(rest, 0))),
-        85 => tell(rt, stage(values).quiet_until(word(rest, 0), word(rest, 1), number(rest, 2))),
+        85 => tell(
+            rt,
+            stage(values).quiet_until(word(rest, 0), word(rest, 1), number(rest, 2)),
+        ),
         86 => tell(rt, distance(number(values, 0), number(values, 1))),
         87 => tell_whether(rt, mark(values).fits()),
         _ => {}

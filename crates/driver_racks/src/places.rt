@@ -36,7 +36,10 @@ fn report(values: &[u8]) -> Report {
 
 pub fn call(rt: &HostRuntime, op: u64, values: &[u8]) {
     match op {
-        37 => tell_place(rt, Place::with(half(values, 0), number(values, 1), card(from(values, 2)))),
+        37 => tell_place(
+            rt,
+            Place::with(half(values, 0), number(values, 1), card(from(values, 2))),
+        ),
         38 => tests(rt, place(values), half(values, PLACE)),
         39 => find(rt, rack(values), half(values, WHOLE)),
         40 => tell_whether(rt, begun_fits(key(values, 0), mark(from(values, 1)))),

@@ -25,10 +25,10 @@ fn tell_struck(rt: &HostRuntime, struck: Struck) {
 pub fn call(rt: &HostRuntime, op: u64, values: &[u8]) {
     match op {
         32 => tell_changed(rt, Rack::begin(key(values, 0))),
-        33 => tell_changed(rt, rack(values).put_in(
-            half(values, WHOLE),
-            card(from(values, BEFORE_CARD)),
-        )),
+        33 => tell_changed(
+            rt,
+            rack(values).put_in(half(values, WHOLE), card(from(values, BEFORE_CARD))),
+        ),
         34 => tell_changed(rt, rack(values).take_out(half(values, WHOLE))),
         35 => tell_struck(rt, rack(values).stroke(byte(values, WHOLE))),
         36 => tell_whether(rt, rack(values).fits()),

@@ -27,23 +27,32 @@ fn walk(rt: &HostRuntime, values: &[u8]) {
     let now = mark(rest);
     let shifts = Powers::of(key(rest, 2), MAX_LENGTH).shifts(signature.length);
     let round = Round { signature, now };
-    tell_walk(rt, climb(round, shifts, mark(from(rest, 3)), stages(from(rest, 5))));
+    tell_walk(
+        rt,
+        climb(round, shifts, mark(from(rest, 3)), stages(from(rest, 5))),
+    );
 }
 
 fn note(rt: &HostRuntime, values: &[u8]) {
     let mut room = [0u64; LIST];
     let notes = lend_list(from(values, BEFORE_LIST), &mut room);
     let at = number(values, 0) as usize;
-    tell_size(rt, put_answer(notes, at, number(values, 1), answer(from(values, 2))));
+    tell_size(
+        rt,
+        put_answer(notes, at, number(values, 1), answer(from(values, 2))),
+    );
     tell_list(rt, notes);
 }
 
 pub fn call(rt: &HostRuntime, op: u64, values: &[u8]) {
     match op {
-        28 => tell_watch(rt, watch(values).moved(
-            mark(from(values, WATCH)),
-            stages(from(values, BEFORE_STAGES)),
-        )),
+        28 => tell_watch(
+            rt,
+            watch(values).moved(
+                mark(from(values, WATCH)),
+                stages(from(values, BEFORE_STAGES)),
+            ),
+        ),
         29 => walk(rt, values),
         30 => tell_whether(rt, answer(values).is_silent()),
         31 => note(rt, values),

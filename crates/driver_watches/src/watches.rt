@@ -75,14 +75,20 @@ fn tell_turn(rt: &HostRuntime, turn: Turn) {
 // A stroke as a rack makes it: under a table of a key's powers, of a watch that was put in at a count.
 fn stroke_shared(rt: &HostRuntime, watch: Matcher, values: &[u8]) {
     let powers = Powers::of(key(values, 0), MAX_LENGTH);
-    tell_turn(rt, watch.stroke_shared(powers, number(values, 1), byte(values, 2)));
+    tell_turn(
+        rt,
+        watch.stroke_shared(powers, number(values, 1), byte(values, 2)),
+    );
 }
 
 pub fn call(rt: &HostRuntime, op: u64, values: &[u8]) {
     match op {
         16 => tell_started(rt, Matcher::start(card(values))),
         17 => tell_stroke(rt, watch(values).stroke(byte(values, WATCH))),
-        18 => tell_stroke(rt, in_place::stroke_local(watch(values), byte(values, WATCH))),
+        18 => tell_stroke(
+            rt,
+            in_place::stroke_local(watch(values), byte(values, WATCH)),
+        ),
         19 => strokes(rt, watch(values), buffer(from(values, WATCH))),
         24 => tell_restored(rt, restore(card(values), buffer(from(values, CARD)))),
         25 => scan(rt, values),

@@ -12,8 +12,8 @@ use Rattle.fingerprint.specs.declared.Key.{Key}
 use Rattle.fingerprint.specs.Fingerprint.{key_fits}
 use Rattle.stage.specs.Stage.{max_taken}
 use Rattle.rack.specs.Rack.{rack_places, no_place, is_in, first_place, rack_begun}
-use Rattle.rack_run.specs.Calls.{Call, stroke, AllPossible, Standing, refusal_of, begun, ran, bytes_taken}
-use Rattle.rack_run.specs.Ledger.{Ledger, empty_ledger, given, ledger}
+use Rattle.rack_run.specs.Calls.{Call, stroke, AllPossible, Standing, refusal_of, begun, after, ran, bytes_taken}
+use Rattle.rack_run.specs.Ledger.{Ledger, empty_ledger, given, noted, ledger}
 use Rattle.rack_run.specs.Statement.{SaysAfter}
 use Rattle.rack_run.proofs.Begun.{begun-fits, begun-typed}
 use Rattle.rack_run.proofs.Follows.{Follows, says}
@@ -45,7 +45,8 @@ follows :
     → Follows key (ran s calls) (ledger key l calls)
 unfolding ran ledger
 follows key s l [] possible q = q
-follows key s l (call ∷ calls) possible q = follows key _ _ calls possible.1 (kept key s l q call possible.0)
+follows key s l (call ∷ calls) possible q =
+    follows key (after s call) (noted key l call) calls possible.1 (kept key s l q call possible.0)
 
 pub rack-run : (key : Key) → key_fits key ≡ true → (calls : List Call) → AllPossible calls → SaysAfter key calls
 rack-run key e calls possible = says key _ _ (follows key (begun key) empty_ledger calls possible (follows-begun key e))

@@ -73,8 +73,7 @@ fn run(rt: &HostRuntime, input: &[u8]) -> io::Result<u32> {
 
 // Reads the cases and tries them.
 fn serve(rt: &HostRuntime, room: &mut [u8; ROOM]) -> io::Result<()> {
-    println!(
-        rt;
+    println!(rt;
         "pattern stream passes cuts occurrences missed rings false sets aside comparisons digest failures"
     )?;
     let got = descriptor::fill(&mut rt.stdin(), room);

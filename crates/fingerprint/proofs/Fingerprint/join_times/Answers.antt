@@ -17,10 +17,10 @@ loop-many-preserved c =
     let more : 1 < loop.many = omega (arith, c.loop-many-test.true) in
     rw (c.squared-length.ensures, c.join_by-block.ensures)
     (elim c.if-many-eq1.branch [
-        then-many-eq1 w ↦
-            rw (w.front-is, w.join_by-front.ensures) (halved-odd loop.invariant more (omega (arith, w.if-many-eq1.true)))
+      | then-many-eq1 w ↦
+          rw (w.front-is, w.join_by-front.ensures) (halved-odd loop.invariant more (omega (arith, w.if-many-eq1.true)))
       | else-many-eq1 w ↦
-            rw w.front-is (halved-even loop.invariant more (λ (e : loop.many % 2 ≡ 1). omega (arith, e, w.if-many-eq1.false)))
+          rw w.front-is (halved-even loop.invariant more (λ (e : loop.many % 2 ≡ 1). omega (arith, e, w.if-many-eq1.false)))
     ])
 
 pub returns : goal.returns

@@ -16,7 +16,7 @@ loop-left-preserved c =
     let more : 1 < loop.left = omega (arith, c.loop-left-test.true) in
     rw c.squared-base.ensures
     (elim c.if-left-eq1.branch [
-        then-left-eq1 w ↦ rw (w.product-is, w.times-product.ensures) (halving-odd loop.invariant more (omega (arith, w.if-left-eq1.true)))
+      | then-left-eq1 w ↦ rw (w.product-is, w.times-product.ensures) (halving-odd loop.invariant more (omega (arith, w.if-left-eq1.true)))
       | else-left-eq1 w ↦ rw w.product-is (halving-even loop.invariant more (λ (e : loop.left % 2 ≡ 1). omega (arith, e, w.if-left-eq1.false)))
     ])
 
