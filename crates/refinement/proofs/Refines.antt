@@ -26,7 +26,6 @@ use Rattle.stage.specs.Stages.{stage_count, stage_at, stages_of}
 use Rattle.stage.proofs.Stages.{stages-same, whole_of, stage-of}
 use Rattle.walk.specs.Walk.{next_mark, walked_from}
 use Rattle.matcher.specs.Stroke.{walked, stroke_refusal, stroke_answer}
-use Rattle.walk.specs.declared.Walk.{Walk}
 use Rattle.refinement.specs.Refinement.{card_tests, mark_in, summary, watch_of, Refines}
 use Rattle.signature.proofs.Card.{SoundCard, sound-card}
 use Rattle.refinement.proofs.Summary.{by-print, mark-grown, summary-grown}

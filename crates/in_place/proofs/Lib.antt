@@ -1,3 +1,0 @@
-pub mod Clauses
-pub mod Types
-pub mod Watch
