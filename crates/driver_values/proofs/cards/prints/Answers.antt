@@ -1,12 +1,9 @@
 -- `driver_values::cards::prints` meets its contract: the places passed hold the prints read.
-use Prim.Native.Nat.{◌-◌, ◌*◌, ◌≤◌}
-use mathlib.Core.Path.{◌≡◌, refl, ◌∙◌, ap}
+use mathlib.Core.Path.{refl, ◌∙◌}
 use mathlib.Core.List.{[]}
 use native.Mathlib.Omega.{arith}
-use lib.ListN.{length, take, length-set}
-use Rattle.lists.specs.Lists.{tabulate}
-use Rattle.lists.proofs.Laws.{fill_none, fill_more, fill-all}
-use Rattle.signature.specs.Signature.{places}
+use lib.ListN.{length-set}
+use Rattle.lists.proofs.Laws.{fill_none, fill_more}
 use Rattle.driver_values.specs.Cards.{print_in}
 use Rattle.driver_values.proofs.cards.prints.Goals as goal
 

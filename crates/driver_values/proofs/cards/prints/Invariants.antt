@@ -1,11 +1,8 @@
 -- `driver_values::cards::prints` meets its contract: the places passed hold the prints read.
-use Prim.Native.Nat.{◌-◌, ◌*◌, ◌≤◌}
-use mathlib.Core.Path.{◌≡◌, refl, ◌∙◌, ap}
-use mathlib.Core.List.{[]}
-use native.Mathlib.Omega.{arith}
-use lib.ListN.{length, take, length-set}
+use Prim.Native.Nat.{◌-◌, ◌≤◌}
+use mathlib.Core.Path.{◌≡◌}
+use lib.ListN.{length, take}
 use Rattle.lists.specs.Lists.{tabulate}
-use Rattle.lists.proofs.Laws.{fill_none, fill_more, fill-all}
 use Rattle.signature.specs.Signature.{places}
 use Rattle.driver_values.specs.Cards.{print_in}
 use Rattle.driver_values.proofs.cards.prints.Given as goal

@@ -1,14 +1,10 @@
 -- `driver_values::racks::labels` meets its contract: the places passed hold the labels read.
-use Prim.Native.Nat.{◌-◌, ◌*◌, ◌≤◌}
-use mathlib.Core.Path.{◌≡◌, refl, ◌∙◌, ap}
-use mathlib.Core.List.{[]}
-use native.Mathlib.Omega.{arith}
-use lib.ListN.{length, take, length-set}
+use Prim.Native.Nat.{◌-◌, ◌≤◌}
+use mathlib.Core.Path.{◌≡◌}
+use lib.ListN.{length, take}
 use Rattle.lists.specs.Lists.{tabulate}
-use Rattle.lists.proofs.Laws.{fill_none, fill_more, fill-all}
 use Rattle.rack_names.specs.Names.{rack_places}
 use Rattle.driver_values.specs.Cards.{word_in}
-use Rattle.driver_values.specs.Racks.{labels_in}
 use Rattle.driver_values.proofs.racks.labels.Given as goal
 
 abbrev pub invariant-loop-i : goal.invariant-loop-i

@@ -1,14 +1,11 @@
 -- `driver_values::racks::places` meets its contract: the places passed hold the places read.
 use Prim.Native.Nat.{◌-◌, ◌*◌, ◌≤◌}
-use mathlib.Core.Path.{◌≡◌, refl, ◌∙◌, ap}
-use mathlib.Core.List.{[]}
-use native.Mathlib.Omega.{arith}
-use lib.ListN.{length, take, length-set}
+use mathlib.Core.Path.{◌≡◌}
+use lib.ListN.{length, take}
 use Rattle.lists.specs.Lists.{tabulate}
-use Rattle.lists.proofs.Laws.{fill_none, fill_more, fill-all}
 use Rattle.rack_names.specs.Names.{rack_places}
 use Rattle.driver_input.specs.Input.{numbers_from}
-use Rattle.driver_values.specs.Racks.{place_in, places_in}
+use Rattle.driver_values.specs.Racks.{place_in}
 use Rattle.driver_values.proofs.racks.places.Given as goal
 
 abbrev pub invariant-loop-i : goal.invariant-loop-i

@@ -1,12 +1,10 @@
 -- `driver_values::watches::sets` meets its contract: the places passed hold the sets read.
-use Prim.Native.Nat.{◌-◌, ◌*◌, ◌≤◌}
-use mathlib.Core.Path.{◌≡◌, refl, ◌∙◌, ap}
+use Prim.Native.Nat.{◌*◌}
+use mathlib.Core.Path.{refl, ◌∙◌, ap}
 use mathlib.Core.List.{[]}
 use native.Mathlib.Omega.{arith}
-use lib.ListN.{length, take, length-set}
-use Rattle.lists.specs.Lists.{tabulate}
-use Rattle.lists.proofs.Laws.{fill_none, fill_more, fill-all}
-use Rattle.stage.specs.Stages.{stage_count}
+use lib.ListN.{length-set}
+use Rattle.lists.proofs.Laws.{fill_none, fill_more}
 use Rattle.driver_input.specs.Input.{numbers_from}
 use Rattle.driver_values.specs.Watches.{set_in}
 use Rattle.driver_values.proofs.watches.sets.Goals as goal

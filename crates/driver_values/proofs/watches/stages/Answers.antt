@@ -1,10 +1,9 @@
 -- `driver_values::watches::stages` meets its contract: the places passed hold the stages read.
-use Prim.Native.Nat.{◌-◌, ◌*◌, ◌≤◌}
+use Prim.Native.Nat.{◌*◌}
 use mathlib.Core.Path.{◌≡◌, refl, ◌∙◌, ap}
 use mathlib.Core.List.{[]}
 use native.Mathlib.Omega.{arith}
-use lib.ListN.{length, take, length-set}
-use Rattle.lists.specs.Lists.{tabulate}
+use lib.ListN.{length-set}
 use Rattle.lists.proofs.Laws.{fill_none, fill_more, fill-all}
 use Rattle.stage.specs.Stages.{stage_count}
 use Rattle.driver_input.specs.Input.{numbers_from}

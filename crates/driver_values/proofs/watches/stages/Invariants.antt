@@ -1,14 +1,11 @@
 -- `driver_values::watches::stages` meets its contract: the places passed hold the stages read.
 use Prim.Native.Nat.{◌-◌, ◌*◌, ◌≤◌}
-use mathlib.Core.Path.{◌≡◌, refl, ◌∙◌, ap}
-use mathlib.Core.List.{[]}
-use native.Mathlib.Omega.{arith}
-use lib.ListN.{length, take, length-set}
+use mathlib.Core.Path.{◌≡◌}
+use lib.ListN.{length, take}
 use Rattle.lists.specs.Lists.{tabulate}
-use Rattle.lists.proofs.Laws.{fill_none, fill_more, fill-all}
 use Rattle.stage.specs.Stages.{stage_count}
 use Rattle.driver_input.specs.Input.{numbers_from}
-use Rattle.driver_values.specs.Watches.{stage_in, stages_in}
+use Rattle.driver_values.specs.Watches.{stage_in}
 use Rattle.driver_values.proofs.watches.stages.Given as goal
 
 abbrev pub invariant-loop-i : goal.invariant-loop-i
