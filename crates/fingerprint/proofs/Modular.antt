@@ -1,6 +1,6 @@
 -- Residues: numbers that differ by multiples of m have one residue, so an inner `% m` may be left out; and bounds of products.
 -- Assumes nothing.
-use Prim.Native.Nat.{ℕ, ◌+◌, ◌-◌, ◌*◌, ◌/◌, ◌%◌, ◌≤◌}
+use Prim.Native.Nat.{ℕ, ◌+◌, ◌*◌, ◌/◌, ◌%◌, ◌≤◌}
 use mathlib.Core.Path.{◌≡◌, sym, ◌∙◌, ap}
 use native.Mathlib.Nat.{add-mul-mod_self_left, mod-add-div, mul-le-mul}
 use native.Mathlib.Omega.{arith}

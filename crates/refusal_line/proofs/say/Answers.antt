@@ -36,12 +36,14 @@ ends entry exit at lines next p w k = omega (arith, k, next-within entry exit at
 
 pub slice_bounds-line-end : goal.slice_bounds-line-end
 slice_bounds-line-end g c =
-    let u = c.put_refusal-put in ends _ _ _ _ _ c.in-Next.ensures.value c.in-Next.ensures.buf_after u.auto.buf
+    let u = c.put_refusal-put in
+    omega (arith, ends _ _ _ _ _ c.in-Next.ensures.value c.in-Next.ensures.buf_after u.auto.buf)
 
 pub slice_bounds-write-end : goal.slice_bounds-write-end
 slice_bounds-write-end g c =
     let u = c.put_refusal-put in
-    sym (length-take-le _ _ (ends _ _ _ _ _ c.in-Next.ensures.value c.in-Next.ensures.buf_after u.auto.buf))
+    let within = ends _ _ _ _ _ c.in-Next.ensures.value c.in-Next.ensures.buf_after u.auto.buf in
+    sym (length-take-le _ _ (omega (arith, within, u.auto.buf)))
 
 pub returns : goal.returns
 returns g c =

@@ -3,7 +3,7 @@ use Prim.Native.Nat.{◌<◌, ◌%◌}
 use mathlib.Core.Path.{◌≡◌, ◌∙◌}
 use native.Mathlib.Omega.{arith}
 use Rattle.fingerprint.specs.Fingerprint.{joined_times}
-use Rattle.fingerprint.proofs.Joins.{Halved, halved-begin, halved-odd, halved-even, halved-end}
+use Rattle.fingerprint.proofs.Joins.{halved-odd, halved-even, halved-end}
 use Rattle.fingerprint.proofs.Fingerprint.join_times.Goals as goal
 use Rattle.fingerprint.proofs.Fingerprint.join_times.Goals.{then-many-eq1, else-many-eq1}
 

@@ -1,10 +1,5 @@
 -- `fingerprint::Fingerprint::join_times` meets its contract: the joins left of the block at hand are those wanted.
-use Prim.Native.Nat.{◌<◌}
-use mathlib.Core.Path.{◌∙◌}
-use mathlib.Core.Logic.{⊎_elim}
-use native.Mathlib.Omega.{arith}
-use Rattle.fingerprint.specs.Fingerprint.{joined_times}
-use Rattle.fingerprint.proofs.Joins.{Halved, halved-begin, halved-odd, halved-even, halved-end}
+use Rattle.fingerprint.proofs.Joins.{Halved}
 use Rattle.fingerprint.proofs.Fingerprint.join_times.Given as goal
 
 abbrev pub invariant-loop-many : goal.invariant-loop-many

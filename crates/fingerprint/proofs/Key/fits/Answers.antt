@@ -1,4 +1,5 @@
 -- `fingerprint::Key::fits` meets its contract: each `return` has the test that decides it.
+use native.Mathlib.Omega.{arith}
 use borrow.Author.Tests.{lt-leb, le-leb}
 use Rattle.fingerprint.specs.Fingerprint.{key_fits}
 use Rattle.fingerprint.proofs.Key.fits.Goals as goal
@@ -9,4 +10,4 @@ returns-then-self-lt2 c = simp (lt-leb _ _ c.if-self-lt2.true)
 
 pub returns : goal.returns
 unfolding key_fits
-returns c = simp (le-leb _ _ c.if-self-lt2.false)
+returns c = simp (le-leb 2 c.args.self.r (omega arith))

@@ -2,8 +2,7 @@
 use Prim.Native.Nat.{◌<◌, ◌%◌}
 use mathlib.Core.Path.{◌≡◌, ◌∙◌}
 use native.Mathlib.Omega.{arith}
-use Rattle.fingerprint.proofs.Laws.{power-none}
-use Rattle.fingerprint.proofs.Powers.{Halving, halving-begin, halving-odd, halving-even, halving-end}
+use Rattle.fingerprint.proofs.Powers.{halving-begin, halving-odd, halving-even, halving-end}
 use Rattle.fingerprint.proofs.Key.power.Goals as goal
 use Rattle.fingerprint.proofs.Key.power.Goals.{then-left-eq1, else-left-eq1}
 
