@@ -1,10 +1,6 @@
 -- `signature::levels` meets its contract: the size is 2^k and each smaller power is below m, until the size is not.
-use Prim.Native.Nat.{ℕ, ◌-◌, ◌^◌, ◌<◌}
-use mathlib.Core.Path.{◌≡◌, refl, sym}
+use mathlib.Core.Path.{sym}
 use native.Mathlib.Omega.{arith}
-use native.Mathlib.Numerals.{add-one}
-use lib.Pow.{pow_pos}
-use borrow.Author.Count.{below_more}
 use Rattle.ladder.proofs.Levels.{self-reaches, least-levels}
 use Rattle.signature.proofs.levels.Goals as goal
 

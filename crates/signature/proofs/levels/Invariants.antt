@@ -1,11 +1,6 @@
 -- `signature::levels` meets its contract: the size is 2^k and each smaller power is below m, until the size is not.
 use Prim.Native.Nat.{ℕ, ◌-◌, ◌^◌, ◌<◌}
-use mathlib.Core.Path.{◌≡◌, refl, sym}
-use native.Mathlib.Omega.{arith}
-use native.Mathlib.Numerals.{add-one}
-use lib.Pow.{pow_pos}
-use borrow.Author.Count.{below_more}
-use Rattle.ladder.proofs.Levels.{self-reaches, least-levels}
+use mathlib.Core.Path.{◌≡◌}
 use Rattle.signature.proofs.levels.Given as goal
 
 abbrev pub invariant-loop-size : goal.invariant-loop-size

@@ -1,9 +1,7 @@
 -- `signature::prints_fit` meets its contract: each print that was passed fits.
-use Prim.Native.Nat.{◌-◌, ◌≤◌}
 use mathlib.Core.Path.{◌≡◌, sym, ◌∙◌}
 use mathlib.Core.Bool.{true, false}
 use borrow.Author.Tests.{not-true, not-false}
-use Rattle.lists.specs.Lists.{every}
 use Rattle.lists.proofs.Laws.{every_more, every-fails, every-none}
 use Rattle.signature.specs.Signature.{place_fits, prints_fit}
 use native.Mathlib.Omega.{arith}

@@ -1,8 +1,6 @@
 -- `signature::store` meets its contract: the places that were passed hold what they are to hold.
-use Prim.Native.Nat.{◌-◌, ◌≤◌}
 use mathlib.Core.Path.{◌≡◌, refl, ◌∙◌}
-use lib.ListN.{length, take, replicate, length-set}
-use Rattle.lists.specs.Lists.{tabulate}
+use lib.ListN.{replicate, length-set}
 use Rattle.lists.proofs.Laws.{fill_none, fill_more, fill-all}
 use Rattle.signature.specs.Signature.{stored_at, stored}
 use native.Mathlib.Omega.{arith}

@@ -1,11 +1,9 @@
 -- `signature::store` meets its contract: the places that were passed hold what they are to hold.
 use Prim.Native.Nat.{◌-◌, ◌≤◌}
-use mathlib.Core.Path.{◌≡◌, refl, ◌∙◌}
-use lib.ListN.{length, take, replicate, length-set}
+use mathlib.Core.Path.{◌≡◌}
+use lib.ListN.{length, take}
 use Rattle.lists.specs.Lists.{tabulate}
-use Rattle.lists.proofs.Laws.{fill_none, fill_more, fill-all}
-use Rattle.signature.specs.Signature.{stored_at, stored}
-use native.Mathlib.Omega.{arith}
+use Rattle.signature.specs.Signature.{stored_at}
 use Rattle.signature.proofs.store.Given as goal
 
 abbrev pub invariant-loop-i : goal.invariant-loop-i

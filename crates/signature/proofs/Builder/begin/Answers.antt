@@ -1,5 +1,4 @@
 -- `signature::Builder::begin` meets its contract: each `return` has the tests that lead to it.
-use mathlib.Core.Path.{refl}
 use borrow.Author.Tests.{eq-eqb, ne_eqb, lt-ltb, le-ltb, not-true, not-false}
 use Rattle.signature.specs.Calls.{begun}
 use Rattle.signature.proofs.Builder.begin.Goals as goal

@@ -1,4 +1,5 @@
 -- `signature::Builder::fits` meets its contract.
+use native.Mathlib.Omega.{arith}
 use borrow.Author.Tests.{not-true, not-false, le-leb, lt-leb}
 use Rattle.signature.specs.Signature.{builder_fits}
 use Rattle.signature.proofs.Builder.fits.Goals as goal
@@ -42,7 +43,7 @@ returns-then-not-fits-2 c =
       not-false length-fits.result if1.false-raw,
       ← fits2.ensures,
       not-false fits2.result c.if-not-fits.false-raw,
-      le-leb _ _ c.if-m-taken.false,
+      le-leb c.args.self.taken c.args.self.length (omega arith),
       ← c.fits-2.ensures,
       not-true c.fits-2.result c.if-not-fits-2.true-raw,
     )
@@ -51,7 +52,6 @@ pub returns-then-not-running_fits : goal.returns-then-not-running_fits
 unfolding builder_fits
 returns-then-not-running_fits c =
     let fits3 = c.fits-2 in
-    let if3 = c.if-m-taken in
     let if2 = c.if-not-fits in
     let fits2 = c.fits in
     let if1 = c.if-not-length_fits in
@@ -61,7 +61,7 @@ returns-then-not-running_fits c =
       not-false length-fits.result if1.false-raw,
       ← fits2.ensures,
       not-false fits2.result if2.false-raw,
-      le-leb _ _ if3.false,
+      le-leb c.args.self.taken c.args.self.length (omega arith),
       ← fits3.ensures,
       not-false fits3.result c.if-not-fits-2.false-raw,
       ← c.running_fits.ensures,
@@ -74,7 +74,6 @@ returns c =
     let running-fits = c.running_fits in
     let if4 = c.if-not-fits-2 in
     let fits3 = c.fits-2 in
-    let if3 = c.if-m-taken in
     let if2 = c.if-not-fits in
     let fits2 = c.fits in
     let if1 = c.if-not-length_fits in
@@ -84,7 +83,7 @@ returns c =
       not-false length-fits.result if1.false-raw,
       ← fits2.ensures,
       not-false fits2.result if2.false-raw,
-      le-leb _ _ if3.false,
+      le-leb c.args.self.taken c.args.self.length (omega arith),
       ← fits3.ensures,
       not-false fits3.result if4.false-raw,
       ← running-fits.ensures,
