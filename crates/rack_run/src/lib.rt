@@ -1,1 +1,2 @@
 // Lists of a rack's calls (document 02, A.1): definitions in specs/, the theorems in proofs/, no code.
+#![tactic(auto)]

@@ -1,1 +1,2 @@
 // A watch whose starts are raised by a count: definitions in specs/, the theorem in proofs/, no code.
+#![tactic(auto)]
