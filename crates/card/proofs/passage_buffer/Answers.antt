@@ -3,11 +3,7 @@ use Prim.Native.Nat.{ℕ}
 use mathlib.Core.Path.{sym}
 use lib.ListN.{length-replicate}
 use Rattle.card_core.specs.Card.{overlong}
-use Rattle.card.proofs.passage_buffer.Statement.{statement}
-use Rattle.card.proofs.passage_buffer.Tie as tie
+use Rattle.card.proofs.passage_buffer.Goals as goal
 
-returns : tie.Need-returns
+pub returns : goal.returns
 returns c = sym (length-replicate {0} {A = ℕ} overlong 0)
-
-pub passage-buffer-spec : {M : Type 1} → statement M
-passage-buffer-spec = tie.close (tie.spec returns)
