@@ -1,9 +1,7 @@
 -- Document 01's number for every refusal ("The board's refusals"). Contracts speak of verdicts by these numbers.
-use Rattle.std.specs.Prelude.{ℕ}
+use Rattle.std.specs.Prelude.{ℕ, Result, Ok, Err}
 use Rattle.refusal.specs.declared.Refusal.{Refusal}
 use Rattle.refusal.specs.declared.Refusal.TheVariants.{Empty, Overlong, Key, Unfinished, Surplus, Spent, NoSpace, Short, Kind, Misfit, OtherPassage, Full, NameTaken, NameAbsent, NoTrack, Broken, OutsideBells, TooWide}
-use Rattle.refusal.specs.declared.Verdict.{Verdict}
-use Rattle.refusal.specs.declared.Verdict.TheVariants.{Accepted, Refused}
 
 abbrev pub refusal_number : Refusal → ℕ
 refusal_number Empty = 1
@@ -26,6 +24,6 @@ refusal_number OutsideBells = 17
 refusal_number TooWide = 18
 
 -- 0 says that the call was accepted.
-abbrev pub number : Verdict → ℕ
-number Accepted = 0
-number (Refused refusal) = refusal_number refusal
+abbrev pub number : {A : Type 0} → Result A Refusal → ℕ
+number (Ok value) = 0
+number (Err refusal) = refusal_number refusal

@@ -4,7 +4,7 @@
 ghost use Rattle.std.specs.Prelude.{◌≡◌};
 ghost use Rattle.refusal.specs.Number.{refusal_number, number};
 
-#[derive(Clone, Copy)]
+#[derive(Clone, Copy, PartialEq, Eq, Debug)]
 pub enum Refusal {
     Empty,
     Overlong,
@@ -26,12 +26,8 @@ pub enum Refusal {
     TooWide,
 }
 
-// What a call says of itself: it was carried out, or it was refused and changed nothing.
-#[derive(Clone, Copy)]
-pub enum Verdict {
-    Accepted,
-    Refused(Refusal),
-}
+// What stands beside other values: nothing was refused, or what was. A call that hands back nothing beside a refusal is a `Result` of its value.
+pub type Verdict = Result<(), Refusal>;
 
 impl Refusal {
     pub fn number(self) -> u32
@@ -60,14 +56,12 @@ impl Refusal {
     }
 }
 
-impl Verdict {
-    // The refusal's number, or 0 where the call was accepted.
-    pub fn number(self) -> u32
-        ensures { result ≡ number self }
-    {
-        match self {
-            Verdict::Accepted => 0,
-            Verdict::Refused(refusal) => refusal.number(),
-        }
+// The number of the refusal of a call, or 0 where it was accepted.
+pub fn number_of<T>(outcome: &Result<T, Refusal>) -> u32
+    ensures { result ≡ number outcome.now }
+{
+    match outcome {
+        Ok(_) => 0,
+        Err(refusal) => refusal.number(),
     }
 }
