@@ -7,7 +7,7 @@ use native.Mathlib.Nat.{lt_of_not-le}
 use native.Mathlib.Decide.{dec_le}
 use native.Mathlib.Omega.{arith}
 use borrow.Author.Tests.{le-leb}
-use Rattle.decimal.specs.declared.Parsed.TheVariants.{Number}
+use Rattle.std.proofs.Common.{Some}
 use Rattle.decimal.specs.Decimal.{digit, decimal, parsed_from, parsed_within, most_read, parsed}
 use Rattle.decimal.proofs.Digits.{decimal-one, decimal-more, decimal-some, decimal-length}
 use Rattle.decimal.proofs.Reading.{good_length}
@@ -33,7 +33,7 @@ read-digits (suc f) n rest l =
     ]
 
 -- a number of at most so many digits
-pub read_back : (k n : ℕ) → n < 10 ^ suc k → parsed_within (suc k) (decimal n) ≡ Number n
+pub read_back : (k n : ℕ) → n < 10 ^ suc k → parsed_within (suc k) (decimal n) ≡ Some n
 unfolding parsed_from
 read_back k n h =
     good_length (suc k) (decimal n) (decimal-some n) (decimal-length k n h)
@@ -41,5 +41,5 @@ read_back k n h =
     ∙ read-digits (suc n) n [] (omega arith)
 
 -- what `put` writes `parse` reads, where it has no more digits than are read
-pub parsed-decimal : (n : ℕ) → n < 10 ^ most_read → parsed (decimal n) ≡ Number n
+pub parsed-decimal : (n : ℕ) → n < 10 ^ most_read → parsed (decimal n) ≡ Some n
 parsed-decimal n h = read_back 9 n h

@@ -10,7 +10,7 @@ use native.Mathlib.Omega.{arith}
 use lib.ListN.{length, get_or, drop, drop_of_length-le}
 use lib.Seq.{drop-cons}
 use borrow.Author.Tests.{le-leb, lt-leb}
-use Rattle.decimal.specs.declared.Parsed.TheVariants.{Bad, Number}
+use Rattle.std.proofs.Common.{None, Some}
 use Rattle.decimal.specs.Decimal.{is_digit, parsed_from, parsed_within}
 
 -- a character below `0` or above `9` is no digit
@@ -30,12 +30,12 @@ pub read_none : (text : List ℕ) → Read text 0 0
 read_none text = record { within = omega arith; small = omega arith; same = refl }
 
 module _ (text : List ℕ) (value i : ℕ) (q : Read text value i) where
-  pub read_all : length text ≤ i → parsed_from 0 text ≡ Number value
+  pub read_all : length text ≤ i → parsed_from 0 text ≡ Some value
   unfolding parsed_from
   read_all l = q.same ∙ rw (drop_of_length-le text l)
 
   module _ (l : i < length text) where
-    pub read-bad : is_digit (get_or text i 0) ≡ false → parsed_from 0 text ≡ Bad
+    pub read-bad : is_digit (get_or text i 0) ≡ false → parsed_from 0 text ≡ None
     unfolding parsed_from
     read-bad e = q.same ∙ rw (drop-cons text i 0 l, parsed_from, e)
 
@@ -61,11 +61,11 @@ module _ (text : List ℕ) (value i : ℕ) (q : Read text value i) where
 
 -- a text's length
 module _ (most : ℕ) (text : List ℕ) where
-  pub too_short : length text < 1 → parsed_within most text ≡ Bad
+  pub too_short : length text < 1 → parsed_within most text ≡ None
   unfolding parsed_within
   too_short l = rw (lt-leb 1 (length text) l)
 
-  pub too_long : most < length text → parsed_within most text ≡ Bad
+  pub too_long : most < length text → parsed_within most text ≡ None
   unfolding parsed_within
   too_long l = rw (lt-leb (length text) most l, and-false)
 

@@ -1,7 +1,5 @@
 -- Decimal numbers: the digits of a number, the number that digits make, and what a lent buffer holds once digits are put into it.
-use Rattle.std.specs.Prelude.{ℕ, zero, suc, ◌+◌, ◌-◌, ◌*◌, ◌/◌, ◌%◌, ◌^◌, Bool, true, false, cond, ◌&&◌, List, [], ◌∷◌, ◌++◌, length, take, drop, leb, ltb}
-use Rattle.decimal.specs.declared.Parsed.{Parsed}
-use Rattle.decimal.specs.declared.Parsed.TheVariants.{Bad, Number}
+use Rattle.std.specs.Prelude.{ℕ, zero, suc, ◌+◌, ◌-◌, ◌*◌, ◌/◌, ◌%◌, ◌^◌, Option, None, Some, Bool, true, false, cond, ◌&&◌, List, [], ◌∷◌, ◌++◌, length, take, drop, leb, ltb}
 
 -- A digit's character: 48 is `0`.
 abbrev pub digit : ℕ → ℕ
@@ -21,19 +19,19 @@ abbrev pub is_digit : ℕ → Bool
 is_digit c = leb 48 c && leb c 57
 
 -- The number that the digits of a text make behind those read so far; none where something else is among them.
-unfoldable pub parsed_from : ℕ → List ℕ → Parsed
-parsed_from value [] = Number value
-parsed_from value (c ∷ text) = cond (is_digit c) (parsed_from (10 * value + (c - 48)) text) Bad
+unfoldable pub parsed_from : ℕ → List ℕ → Option ℕ
+parsed_from value [] = Some value
+parsed_from value (c ∷ text) = cond (is_digit c) (parsed_from (10 * value + (c - 48)) text) None
 
 -- The number that a text says which has one digit at least and so many at most.
-unfoldable pub parsed_within : ℕ → List ℕ → Parsed
-parsed_within most text = cond (leb 1 (length text) && leb (length text) most) (parsed_from 0 text) Bad
+unfoldable pub parsed_within : ℕ → List ℕ → Option ℕ
+parsed_within most text = cond (leb 1 (length text) && leb (length text) most) (parsed_from 0 text) None
 
 -- The most digits that are read.
 abbrev pub most_read : ℕ
 most_read = 10
 
-abbrev pub parsed : List ℕ → Parsed
+abbrev pub parsed : List ℕ → Option ℕ
 parsed text = parsed_within most_read text
 
 -- A number that is put fits 64 bits, so it has at most 20 digits.

@@ -7,37 +7,21 @@ ghost use Rattle.decimal.specs.Decimal.{decimal, parsed, place_behind, buffer_wi
 // The most digits that are read.
 const MOST_READ: usize = 10;
 
-// What a text says: a number, or none.
-#[derive(Clone, Copy)]
-pub enum Parsed {
-    Bad,
-    Number(u64),
-}
-
-// A decimal number of at most ten digits.
-pub fn parse(text: &[u8]) -> Parsed
+// The decimal number of at most ten digits that a text says, if it says one.
+pub fn parse(text: &[u8]) -> Option<u64>
     ensures { result ≡ parsed text.now }
 {
-    if text.len() < 1 {
-        return Parsed::Bad;
-    }
-    if MOST_READ < text.len() {
-        return Parsed::Bad;
+    if text.is_empty() || MOST_READ < text.len() {
+        return None;
     }
     let mut value: u64 = 0;
-    let mut i: usize = 0;
-    while i < text.len() {
-        let c = text[i];
-        if c < b'0' {
-            return Parsed::Bad;
-        }
-        if b'9' < c {
-            return Parsed::Bad;
+    for &c in text {
+        if c < b'0' || b'9' < c {
+            return None;
         }
         value = 10 * value + (c - b'0') as u64;
-        i = i + 1;
     }
-    Parsed::Number(value)
+    Some(value)
 }
 
 // How many digits a number has.
@@ -47,8 +31,8 @@ fn digit_count(n: u64) -> usize
     let mut rest = n;
     let mut count: usize = 1;
     while rest >= 10 {
-        rest = rest / 10;
-        count = count + 1;
+        rest /= 10;
+        count += 1;
     }
     count
 }
@@ -60,18 +44,15 @@ pub fn put(buf: &mut [u8], at: usize, n: u64) -> usize
     ensures buf_after { buf.new ≡ buffer_with buf.old at n }
 {
     let count = digit_count(n);
-    if buf.len() < at {
-        return at;
-    }
-    if buf.len() - at < count {
+    if buf.len() < at || buf.len() - at < count {
         return at;
     }
     let mut left = n;
     let mut i = at + count;
     while left >= 10 {
-        i = i - 1;
+        i -= 1;
         buf[i] = b'0' + (left % 10) as u8;
-        left = left / 10;
+        left /= 10;
     }
     buf[at] = b'0' + left as u8;
     at + count

@@ -29,11 +29,6 @@ returns-then-buf-at c =
     let full = put_full c.args.buf.now c.args.at c.args.n (omega arith) in
     record { value = full.0; buf_after = full.1 }
 
-pub returns-then-buf-at-2 : goal.returns-then-buf-at-2
-returns-then-buf-at-2 c =
-    let full = put_full c.args.buf.now c.args.at c.args.n (omega arith) in
-    record { value = full.0; buf_after = full.1 }
-
 pub returns : goal.returns
 returns c =
     let a = c.args in
