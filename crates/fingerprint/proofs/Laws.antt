@@ -9,7 +9,7 @@ use native.Mathlib.Nat.{pow-zero, pow-suc, add-mod-mod, mod-add-div}
 use native.Mathlib.Numerals.{add-one}
 use native.Mathlib.Omega.{arith}
 use lib.ListN.{length, get_or}
-use lib.Dec.{leb}
+use lib.Dec.{leb, eqb}
 use borrow.Author.Tests.{ltb-true, lt-ltb, eqb-true, eq-eqb, le-leb, leb-true}
 use Rattle.fingerprint.specs.declared.Key.{Key}
 use Rattle.fingerprint.specs.declared.Power.{Power}
@@ -51,7 +51,15 @@ use Rattle.fingerprint.proofs.Powers.{power-product}
 by_value : (f g : Fingerprint) → f.value ≡ g.value → f ≡ g
 by_value f g e = λ i. record { value = e i }
 
--- Equality, by its test.
+-- Equality, by its test: `==` on fingerprints and on keys compares their numbers, which is `same` and `same_key`.
+pub eqb-same : (f g : Fingerprint) → eqb f.value g.value ≡ same f g
+unfolding same
+eqb-same f g = refl
+
+pub eqb-same_key : (a b : Key) → eqb a.r b.r ≡ same_key a b
+unfolding same_key
+eqb-same_key a b = refl
+
 pub same-eq : (f g : Fingerprint) → same f g ≡ true → f ≡ g
 unfolding same
 same-eq f g e = by_value f g (eqb-true f.value g.value e)

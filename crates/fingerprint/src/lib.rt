@@ -29,19 +29,19 @@ ghost use Rattle.fingerprint.specs.Fingerprint.{
 };
 
 // The key r, under which all fingerprints of a signature are taken.
-#[derive(Clone, Copy)]
+#[derive(Clone, Copy, PartialEq, Eq, Debug)]
 pub struct Key {
     pub r: u32,
 }
 
 // A power of a key, modulo P.
-#[derive(Clone, Copy)]
+#[derive(Clone, Copy, PartialEq, Eq, Debug)]
 pub struct Power {
     pub value: u32,
 }
 
 // The fingerprint of a block of bytes: a number below P.
-#[derive(Clone, Copy)]
+#[derive(Clone, Copy, PartialEq, Eq, Debug)]
 pub struct Fingerprint {
     pub value: u32,
 }
@@ -61,6 +61,14 @@ impl Key {
         Self { r: 0 }
     }
 
+    // Whether it is what stands where there is no key.
+    #[tactic(auto, unfolding(crate::specs::Fingerprint::same_key))]
+    pub fn is_none(self) -> bool
+        ensures { result ≡ same_key self no_key }
+    {
+        self == Self::none()
+    }
+
     // The number that the key is.
     pub fn number(self) -> u32
         ensures { result ≡ key_number self }
@@ -69,40 +77,29 @@ impl Key {
     }
 
     // Whether r is from 2 to P - 1: document 01's key limits.
+    #[tactic(auto, unfolding(crate::specs::Fingerprint::key_fits))]
     pub fn fits(self) -> bool
         ensures { result ≡ key_fits self }
     {
-        if self.r < 2 {
-            return false;
-        }
-        (self.r as u64) <= Fingerprint::P - 1
-    }
-
-    // Whether two keys are equal.
-    pub fn equals(self, other: Key) -> bool
-        ensures { result ≡ same_key self other }
-    {
-        self.r == other.r
+        2 <= self.r && (self.r as u64) <= Fingerprint::P - 1
     }
 
     // r to the n, modulo P. Each turn halves the exponent left and squares the base: product × base^left stays the power wanted.
     pub fn power(self, n: u64) -> Power
         ensures { result ≡ power self n }
     {
-        let one = Power { value: 1 };
+        let mut product = Power { value: 1 };
         if n == 0 {
-            return one;
+            return product;
         }
-        let r = self.r;
-        let mut product = one;
-        let mut base = one.times(Power { value: r }); // r, below P
+        let mut base = product.times(Power { value: self.r }); // r, below P
         let mut left = n;
         while 1 < left {
             if left % 2 == 1 {
                 product = product.times(base);
             }
             base = base.squared();
-            left = left / 2;
+            left /= 2;
         }
         product.times(base)
     }
@@ -130,10 +127,7 @@ impl Power {
     pub fn squared(self) -> Self
         ensures { result ≡ squared self }
     {
-        let square = (self.value as u64) * (self.value as u64);
-        Self {
-            value: (square % Fingerprint::P) as u32,
-        }
+        self.times(self)
     }
 }
 
@@ -153,6 +147,14 @@ impl Fingerprint {
         ensures { result ≡ empty }
     {
         Self { value: 0 }
+    }
+
+    // Whether it is the fingerprint of no bytes.
+    #[tactic(auto, unfolding(crate::specs::Fingerprint::same))]
+    pub fn is_empty(self) -> bool
+        ensures { result ≡ same self empty }
+    {
+        self == Self::empty()
     }
 
     // The fingerprint of one byte, under any key.
@@ -192,8 +194,7 @@ impl Fingerprint {
     pub fn join(self, key: Key, other: Fingerprint, length: u64) -> Self
         ensures { result ≡ joined key self other length }
     {
-        let shift = key.power(length);
-        self.join_by(other, shift)
+        self.join_by(other, key.power(length))
     }
 
     // The same, where `shift` is r to the length of the other block.
@@ -224,7 +225,7 @@ impl Fingerprint {
             }
             block = block.join_by(block, length);
             length = length.squared();
-            many = many / 2;
+            many /= 2;
         }
         front.join_by(block, length)
     }
@@ -233,8 +234,7 @@ impl Fingerprint {
     pub fn cut(self, key: Key, front: Fingerprint, length: u64) -> Self
         ensures { result ≡ rest key self front length }
     {
-        let shift = key.power(length);
-        self.cut_by(front, shift)
+        self.cut_by(front, key.power(length))
     }
 
     // The same, where `shift` is r to the number of those bytes.
@@ -248,14 +248,8 @@ impl Fingerprint {
         }
     }
 
-    // Whether two fingerprints are equal.
-    pub fn equals(self, other: Fingerprint) -> bool
-        ensures { result ≡ same self other }
-    {
-        self.value == other.value
-    }
-
     // Whether the number is one that a fingerprint can be: below P.
+    #[tactic(auto, unfolding(crate::specs::Fingerprint::print_fits))]
     pub fn fits(self) -> bool
         ensures { result ≡ print_fits self }
     {
@@ -263,12 +257,10 @@ impl Fingerprint {
     }
 
     // Whether it is the fingerprint of one byte.
+    #[tactic(auto, unfolding(crate::specs::Fingerprint::is_byte_print))]
     pub fn is_of_byte(self) -> bool
         ensures { result ≡ is_byte_print self }
     {
-        if self.value < 1 {
-            return false;
-        }
-        self.value <= 256
+        1 <= self.value && self.value <= 256
     }
 }

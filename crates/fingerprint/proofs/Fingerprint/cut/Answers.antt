@@ -6,4 +6,4 @@ use Rattle.fingerprint.proofs.Fingerprint.cut.Goals as goal
 pub returns : goal.returns
 returns c =
     let a = c.args in
-    c.cut_by.ensures ∙ rw c.power-shift.ensures (rest-by a.key a.self a.front a.length)
+    c.cut_by.ensures ∙ rw c.power.ensures (rest-by a.key a.self a.front a.length)

@@ -6,4 +6,4 @@ use Rattle.fingerprint.proofs.Fingerprint.join.Goals as goal
 pub returns : goal.returns
 returns c =
     let a = c.args in
-    c.join_by.ensures ∙ rw c.power-shift.ensures (join_by a.key a.self a.other a.length)
+    c.join_by.ensures ∙ rw c.power.ensures (join_by a.key a.self a.other a.length)

@@ -3,7 +3,7 @@ use Rattle.fingerprint.proofs.Powers.{Halving}
 use Rattle.fingerprint.proofs.Key.power.Given as goal
 
 abbrev pub invariant-loop-left : goal.invariant-loop-left
-invariant-loop-left l = Halving l.r l.n l.product l.base l.left
+invariant-loop-left l = Halving l.fn.self.r l.n l.product l.base l.left
 
 abbrev pub decreases-loop-left : goal.decreases-loop-left
 decreases-loop-left l = l.left
