@@ -10,63 +10,43 @@ mod heard;
 pub use heard::{Heard, fail};
 use std::io;
 
-// How many bytes were read, to the buffer's front, and whether no read failed.
-#[derive(Clone, Copy)]
-pub struct Got {
+// A read or a write that failed, and how many bytes were read before it.
+#[derive(Clone, Copy, PartialEq, Eq, Debug)]
+pub struct Failed {
     pub count: usize,
-    pub ok: bool,
 }
 
-// How many bytes were written: all, or none that count, where a write failed.
-#[derive(Clone, Copy)]
-pub struct Sent {
-    pub count: usize,
-    pub ok: bool,
-}
-
-// Reads once: no bytes at the end of the input, or where the read failed.
-pub fn read<R: io::Read>(from: &mut R, buf: &mut [u8]) -> Got
+// Reads once, to the buffer's front: how many bytes, none at the end of the input.
+pub fn read<R: io::Read>(from: &mut R, buf: &mut [u8]) -> Result<usize, Failed>
     ensures { ReadOnce result buf.new }
 {
     match from.read(buf) {
-        Ok(count) => Got { count, ok: true },
-        Err(_) => Got {
-            count: 0,
-            ok: false,
-        },
+        Ok(count) => Ok(count),
+        Err(_) => Err(Failed { count: 0 }),
     }
 }
 
-// Reads until the buffer is full, the input ends or a read fails.
-pub fn fill<R: io::Read>(from: &mut R, buf: &mut [u8]) -> Got
+// Reads until the buffer is full, the input ends or a read fails: how many bytes were read, to the buffer's front.
+pub fn fill<R: io::Read>(from: &mut R, buf: &mut [u8]) -> Result<usize, Failed>
     ensures { Reads result buf.new }
 {
     let mut count: usize = 0;
     while count < buf.len() {
-        let got = read(from, &mut buf[count..]);
-        if !got.ok {
-            return Got { count, ok: false };
+        match read(from, &mut buf[count..]) {
+            Ok(0) => break,
+            Ok(more) => count += more,
+            Err(_) => return Err(Failed { count }),
         }
-        if got.count == 0 {
-            return Got { count, ok: true };
-        }
-        count = count + got.count;
     }
-    Got { count, ok: true }
+    Ok(count)
 }
 
-// Writes all of the bytes.
-pub fn write<W: io::Write>(to: &mut W, bytes: &[u8]) -> Sent
+// Writes all of the bytes: how many those are, and none that count where a write failed.
+pub fn write<W: io::Write>(to: &mut W, bytes: &[u8]) -> Result<usize, Failed>
     ensures { Writes result bytes.now }
 {
-    if to.write_all(bytes).is_ok() {
-        return Sent {
-            count: bytes.len(),
-            ok: true,
-        };
-    }
-    Sent {
-        count: 0,
-        ok: false,
+    match to.write_all(bytes) {
+        Ok(()) => Ok(bytes.len()),
+        Err(_) => Err(Failed { count: 0 }),
     }
 }
