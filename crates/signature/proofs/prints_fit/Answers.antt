@@ -12,30 +12,30 @@ unfolding prints_fit
 returns-then-not-first_fits c = rw (← c.first_fits.ensures, not-true c.first_fits.result c.if-not-first_fits.true-raw)
 
 pub loop-i-init : goal.loop-i-init
-loop-i-init c = (omega arith, every-none _)
+loop-i-init c = every-none _
 
 pub returns-then-not-place_fits : goal.returns-then-not-place_fits
 unfolding prints_fit
 returns-then-not-place_fits c =
     let a = c.args in
     let i = c.loop-i.i in
-    let fails : place_fits a.m a.taken a.prints i ≡ false =
-    rw (← c.reaches-reached.ensures) (sym c.place_fits.ensures ∙ not-true _ c.if-not-place_fits.true-raw)
+    let fails : place_fits a.m a.taken a.prints.now i ≡ false =
+    rw (← c.reaches.ensures) (sym c.place_fits.ensures ∙ not-true _ c.if-not-place_fits.true-raw)
     in
     rw (
       ← c.first_fits.ensures,
       not-false c.first_fits.result c.if-not-first_fits.false-raw,
-      every-fails (place_fits a.m a.taken a.prints) 21 i c.loop-i-test.true fails,
+      every-fails (place_fits a.m a.taken a.prints.now) 21 i c.loop-i-test.true fails,
     )
 
 pub loop-i-preserved : goal.loop-i-preserved
 loop-i-preserved c =
     let a = c.args in
     let i = c.loop-i.i in
-    let passes : place_fits a.m a.taken a.prints i ≡ true =
-    rw (← c.reaches-reached.ensures) (sym c.place_fits.ensures ∙ not-false _ c.if-not-place_fits.false-raw)
+    let passes : place_fits a.m a.taken a.prints.now i ≡ true =
+    rw (← c.reaches.ensures) (sym c.place_fits.ensures ∙ not-false _ c.if-not-place_fits.false-raw)
     in
-    (omega arith, every_more (place_fits a.m a.taken a.prints) i c.loop-i.invariant.1 passes)
+    every_more (place_fits a.m a.taken a.prints.now) i c.loop-i.invariant passes
 
 pub returns : goal.returns
 unfolding prints_fit
@@ -45,4 +45,4 @@ returns c =
       ← c.first_fits.ensures,
       not-false c.first_fits.result c.if-not-first_fits.false-raw,
     )
-    (sym (rw end at c.loop-i.invariant.1))
+    (sym (rw end at c.loop-i.invariant))

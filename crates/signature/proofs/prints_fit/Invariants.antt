@@ -1,5 +1,4 @@
 -- `signature::prints_fit` meets its contract: each print that was passed fits.
-use Prim.Native.Nat.{◌-◌, ◌≤◌}
 use mathlib.Core.Path.{◌≡◌}
 use mathlib.Core.Bool.{true}
 use Rattle.lists.specs.Lists.{every}
@@ -7,7 +6,4 @@ use Rattle.signature.specs.Signature.{place_fits}
 use Rattle.signature.proofs.prints_fit.Given as goal
 
 abbrev pub invariant-loop-i : goal.invariant-loop-i
-invariant-loop-i l = (l.i ≤ 21) × (every (place_fits l.m l.taken l.prints) l.i ≡ true)
-
-abbrev pub decreases-loop-i : goal.decreases-loop-i
-decreases-loop-i l = 21 - l.i
+invariant-loop-i l = every (place_fits l.m l.taken l.prints) l.i ≡ true
