@@ -13,7 +13,7 @@ abbrev pub squares_of : Key → ℕ → List Power
 squares_of key most = tabulate (λ i. cond (leb i (levels most)) (power key (2 ^ i)) no_power) places
 
 abbrev pub powers_of : Key → ℕ → Powers
-powers_of key most = record { key = key; most = most; squares = squares_of key most }
+powers_of key most = record { key = key; most = most }
 
 -- r to |P_i| for each tested beginning P_0 .. P_k.
 abbrev pub Shifts : Key → ℕ → List Power → Type 0

@@ -1,17 +1,18 @@
 // The powers of a key that a stroke needs, from one table: r to 1, 2, 4 .. 2^20.
 #![tactic(auto)]
 
-ghost use Rattle.std.specs.Prelude.{◌≡◌, ℕ, ◌≤◌, min};
+ghost use Rattle.std.specs.Prelude.{◌≡◌, ◌≤◌, min};
 ghost use Rattle.fingerprint.specs.declared.Key.{Key};
 ghost use Rattle.fingerprint.specs.Fingerprint.{power};
 ghost use Rattle.signature.specs.Signature.{max_length};
-ghost use Rattle.powers.specs.Powers.{powers_of, Shifts};
+ghost use Rattle.powers.specs.Powers.{squares_of, powers_of, Shifts};
 
 use fingerprint::{Key, Power};
 use signature::{MAX_LENGTH, PLACES};
+use std::marker::Model;
 
-// r to 1, 2, 4 .. as far as passages of up to so many bytes need it, found once for all that share a key. Nothing outside makes one but
-// `Powers::of`: its fields are private.
+// r to 1, 2, 4 .. as far as passages of up to so many bytes need it, found once for all that share a key. A clause sees the key and that
+// number of bytes: the squares of every table are those of its key.
 #[derive(Clone, Copy)]
 pub struct Powers {
     key: Key,
@@ -19,14 +20,34 @@ pub struct Powers {
     squares: [Power; PLACES],
 }
 
-// The length, or that of the longest passage if it is less.
-fn capped(most: u32) -> u32
-    ensures { result ≡ min most max_length }
+impl Model for Powers {
+    ghost use Rattle.std.specs.Prelude.{◌≡◌, ◌≤◌};
+    ghost use Rattle.signature.specs.Signature.{max_length};
+    ghost use Rattle.powers.specs.Table.{Table};
+
+    ghost Value = { Table };
+
+    ghost use Rattle.powers.specs.Powers.{squares_of};
+
+    ghost view = { λ a. record { key = a.key; most = a.most } };
+
+    ghost invariant = { λ a. (a.squares ≡ squares_of a.key a.most) × (a.most ≤ max_length) };
+
+    ghost inverse = { λ t. record { key = t.key; most = t.most; squares = squares_of t.key t.most } };
+}
+
+// r to 1, 2, 4 .. 2^k for passages of up to so many bytes, and nothing past them.
+fn squares(key: Key, most: u32) -> [Power; PLACES]
+    requires { most ≤ max_length }
+    ensures { result ≡ squares_of key most }
 {
-    if most < MAX_LENGTH {
-        return most;
+    let mut squares = [Power::none(); PLACES];
+    let mut square = key.power(1);
+    for place in &mut squares[..=signature::levels(most) as usize] {
+        *place = square;
+        square = square.squared();
     }
-    MAX_LENGTH
+    squares
 }
 
 impl Powers {
@@ -34,60 +55,53 @@ impl Powers {
     pub fn of(key: Key, most: u32) -> Powers
         ensures { result ≡ powers_of key (min most max_length) }
     {
-        let most = capped(most);
-        let k = signature::levels(most);
-        let nothing = Power::none();
-        let mut squares = [nothing; PLACES];
-        let mut square = key.power(1);
-        let mut i: u32 = 0;
-        while i <= k {
-            squares[i as usize] = square;
-            square = square.squared();
-            i = i + 1;
+        let most = most.min(MAX_LENGTH);
+        Powers {
+            key,
+            most,
+            squares: squares(key, most),
         }
-        Powers { key, most, squares }
     }
 
     // The key.
-    pub fn key(self) -> Key
-        ensures { result ≡ self.key }
+    pub fn key(&self) -> Key
+        ensures { result ≡ self.now.key }
     {
-        let own = self.key;
-        own
+        self.key
     }
 
-    // r to the n: by the binary digits of n, as far as the table reaches. What is said of powers holds of those of any key, so of all there are.
-    pub fn raise(self, n: u32) -> Power
-        ensures { (key : Key) (most : ℕ) → self ≡ powers_of key most → result ≡ power key n }
+    // r to the n: by the binary digits of n, as far as the table reaches.
+    pub fn raise(&self, n: u32) -> Power
+        ensures { result ≡ power self.now.key n }
     {
-        let key = self.key;
-        if capped(self.most) < n {
-            return key.power(n as u64);
+        if self.most < n {
+            return self.key.power(n as u64);
         }
-        let squares = self.squares;
-        let mut product = key.power(0);
+        let mut product = self.key.power(0);
         let mut left = n;
-        let mut i: u32 = 0;
-        while 0 < left {
-            if left % 2 == 1 {
-                product = product.times(squares[i as usize]);
+        for square in self.squares {
+            if left == 0 {
+                break;
             }
-            left = left / 2;
-            i = i + 1;
+            if left % 2 == 1 {
+                product = product.times(square);
+            }
+            left /= 2;
         }
         product
     }
 
     // r to |P_i| for each tested beginning P_0 .. P_k of a passage of m bytes.
-    pub fn shifts(self, m: u32) -> [Power; PLACES]
-        ensures { (key : Key) (most : ℕ) → self ≡ powers_of key most → m ≤ most → m ≤ max_length → Shifts key m result }
+    pub fn shifts(&self, m: u32) -> [Power; PLACES]
+        ensures { m ≤ max_length → Shifts self.now.key m result }
     {
         let mut shifts = self.squares;
-        if MAX_LENGTH < m {
-            return shifts;
+        if m <= MAX_LENGTH {
+            if self.most < m {
+                shifts = squares(self.key, m);
+            }
+            shifts[signature::levels(m) as usize] = self.raise(m);
         }
-        let k = signature::levels(m);
-        shifts[k as usize] = self.raise(m);
         shifts
     }
 }
