@@ -1,12 +1,15 @@
 -- A number in so many bytes: how many they are, how large it can be, and that it is read back from where it stands.
 -- Assumes nothing.
-use Prim.Native.Nat.{ℕ, zero, suc, ◌+◌, ◌*◌, ◌/◌, ◌%◌, ◌^◌, ◌-◌, ◌≤◌, ◌<◌}
+use Prim.Native.Nat.{ℕ, zero, suc, ◌+◌, ◌*◌, ◌/◌, ◌%◌, ◌^◌, ◌≤◌, ◌<◌}
 use mathlib.Core.Path.{◌≡◌, refl, ◌∙◌, ap}
 use mathlib.Core.List.{List, [], ◌∷◌, ◌++◌}
 use native.Mathlib.Nat.{add-zero, add-suc, pow-suc, pow-succ', pow-le-pow_right, div-lt_iff_lt-mul}
 use native.Mathlib.Omega.{arith}
-use lib.ListN.{length, get_or, length-append}
-use lib.Seq.{get_or-append-add}
+use native.Mathlib.Numerals.{add-one}
+use lib.ListN.{length, get_or, take, drop, length-append}
+use Rattle.std.proofs.Common.{reverse}
+use Rattle.std.proofs.lemmas.List.{reverse-append}
+use lib.Seq.{get_or-append-add, drop-cons}
 use borrow.Author.Tests.{le-leb}
 use Rattle.fields.specs.Fields.{little_endian, number_from, number_at}
 
@@ -45,23 +48,28 @@ number-back front w n rest h =
     rw (le-leb (length front + w) (length (front ++ bytes)) room)
     (rw add-zero at (number_behind front bytes 0 w) ∙ number-first w n rest h)
 
--- A loop that reads from the highest byte down: there is room for one byte more in 8 bytes; and what one byte more makes.
-pub number-room :
-    (left n number : ℕ) → 0 < left → left ≤ n → n ≤ 8 → number < 256 ^ (n - left) → 256 * number + 255 < 256 ^ 8
-number-room left n number some within l h =
-    omega (arith, pow-le-pow_right {n = 256} (omega arith) {i = n - left} {j = 7} (omega arith))
+-- A number is read in a part of the bytes as where the part stands.
+pub number-part : (s : List ℕ) (at w : ℕ) → at + w ≤ length s → number_from (take w (drop at s)) 0 w ≡ number_from s at w
+unfolding number_from
+number-part s at zero h = refl
+number-part s at (suc w) h =
+    let b : ℕ = get_or s at 0 in
+    let rest : List ℕ = take w (drop (suc at) s) in
+    ap (λ (l : List ℕ). number_from (take (suc w) l) 0 (suc w)) (drop-cons s at 0 (omega arith))
+    ∙ ap (λ (n : ℕ). b + 256 * n) (number_behind (b ∷ []) rest 0 w ∙ number-part s (suc at) w (omega arith))
 
-module _ (s : List ℕ) (at left n number : ℕ) (some : 0 < left) (within : left ≤ n) where
-  longer : n - (left - 1) ≡ suc (n - left)
-  longer = omega arith
+-- A loop that reads from the highest byte down: what one byte more makes of the bytes passed, and that there is room for it in 8 bytes.
+pub number_more :
+    (passed : List ℕ) (b number n : ℕ)
+    → number ≡ number_from (reverse passed) 0 n
+    → 256 * number + b ≡ number_from (reverse (passed ++ b ∷ [])) 0 (n + 1)
+unfolding number_from
+number_more passed b number n e =
+    let high = number_behind (b ∷ []) (reverse passed) 0 n in
+    rw (reverse-append passed (b ∷ []), add-one n, e, high) (omega arith)
 
-  pub number_more :
-      number ≡ number_from s (at + left) (n - left)
-      → 256 * number + get_or s (at + (left - 1)) 0 ≡ number_from s (at + (left - 1)) (n - (left - 1))
-  unfolding number_from
-  number_more e =
-      let next : suc (at + (left - 1)) ≡ at + left = omega arith in
-      rw (longer, next, ← e) (omega arith)
+pub number-below : (number b n : ℕ) → number < 256 ^ n → b < 256 → 256 * number + b < 256 ^ (n + 1)
+number-below number b n h small = rw (add-one, pow-succ') (omega arith)
 
-  pub number-below : (b : ℕ) → b < 256 → number < 256 ^ (n - left) → 256 * number + b < 256 ^ (n - (left - 1))
-  number-below b small h = rw (longer, pow-succ') (omega arith)
+pub number-room : (number b n : ℕ) → number < 256 ^ n → b < 256 → n < 8 → 256 * number + b < 256 ^ 8
+number-room number b n h small l = omega (arith, pow-le-pow_right {n = 256} (omega arith) {i = n} {j = 7} (omega arith))

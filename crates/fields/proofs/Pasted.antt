@@ -1,12 +1,15 @@
 -- Bytes put into a buffer: one run behind another is one run, and the buffer keeps its length.
 -- Assumes nothing.
 use Prim.Native.Nat.{ℕ, suc, ◌+◌, ◌-◌, ◌/◌, ◌%◌, ◌≤◌, ◌<◌}
-use mathlib.Core.Path.{◌≡◌, sym, ◌∙◌, ap}
+use mathlib.Core.Path.{◌≡◌, refl, sym, ◌∙◌, ap}
 use mathlib.Core.List.{List, [], ◌∷◌, ◌++◌, append_assoc, append-nil}
-use native.Mathlib.Nat.{add-zero}
+use native.Mathlib.Nat.{zero-add, add-zero}
 use native.Mathlib.Omega.{arith}
 use lib.ListN.{length, take, drop, set, length-append, length-drop, take-append-drop}
-use lib.Seq.{take_at, drop-append-add, drop-drop, drop-set-lt, length-take-le, take-suc-set}
+use lib.Seq.{take_at, drop-append-add, drop-drop, drop-set-lt, drop-length, length-take-le, take-suc-set}
+use Rattle.std.proofs.lemmas.Slice.{put_mid-paste}
+use Rattle.std.proofs.lemmas.List.Edits.{paste_all}
+use borrow.Rule.Slice.PartMut.{put_mid}
 use Rattle.fields.specs.Fields.{little_endian, pasted}
 
 module _ (l us : List ℕ) (at : ℕ) where
@@ -52,15 +55,28 @@ pasted-byte l at b bytes h =
     let same : suc at + length bytes ≡ at + suc (length bytes) = omega arith in
     rw (take-suc-set l at b h, drop-set-lt (suc at + length bytes) l at b (omega arith), same, append_assoc (take at l) (b ∷ []) bytes)
 
+-- a run of as many bytes as the buffer has is the buffer
+pub pasted-whole : (l bytes : List ℕ) → length bytes ≡ length l → pasted l 0 bytes ≡ bytes
+unfolding pasted
+pasted-whole l bytes e = rw (e, zero-add, drop-length, append-nil)
+
+-- bytes written to a part of the buffer
+pub part-pasted :
+    (l : List ℕ) (at k : ℕ) (bytes : List ℕ) → length bytes ≡ k → put_mid at k l bytes ≡ pasted l at bytes
+unfolding pasted
+part-pasted l at k bytes e =
+    put_mid-paste at k l bytes bytes k refl refl (sym e)
+    ∙ paste_all l at bytes k (sym e)
+    ∙ rw e (sym (append_assoc (take at l) bytes (drop (at + k) l)))
+
 -- a loop that writes a number from its lowest byte on: one byte more
 pub number_put :
-    (l : List ℕ) (at i n rest : ℕ)
+    (l : List ℕ) (i n rest : ℕ)
     → i < n
-    → at + i < length l
-    → pasted (set l (at + i) (rest % 256)) (at + (i + 1)) (little_endian (n - (i + 1)) (rest / 256))
-    ≡ pasted l (at + i) (little_endian (n - i) rest)
+    → i < length l
+    → pasted (set l i (rest % 256)) (i + 1) (little_endian (n - (i + 1)) (rest / 256)) ≡ pasted l i (little_endian (n - i) rest)
 unfolding little_endian
-number_put l at i n rest h room =
+number_put l i n rest h room =
     let less : n - i ≡ suc (n - (i + 1)) = omega arith in
-    let next : at + (i + 1) ≡ suc (at + i) = omega arith in
-    rw (less, next) (pasted-byte l (at + i) (rest % 256) (little_endian (n - (i + 1)) (rest / 256)) room)
+    let next : i + 1 ≡ suc i = omega arith in
+    rw (less, next) (pasted-byte l i (rest % 256) (little_endian (n - suc i) (rest / 256)) room)

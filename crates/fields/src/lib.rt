@@ -6,18 +6,11 @@ ghost use Rattle.fields.specs.Fields.{little_endian, number_from, number_at, pas
 ghost use Rattle.fields.specs.Calls.{width_of, number_of, field_at, put_at};
 
 // How many bytes a field has: 2, 4 or 8.
-#[derive(Clone, Copy)]
+#[derive(Clone, Copy, PartialEq, Eq, Debug)]
 pub enum Width {
     Half,
     Word,
     Double,
-}
-
-// What stands at a place: a number, or too few bytes for one.
-#[derive(Clone, Copy)]
-pub enum Found {
-    Number(u64),
-    Missing,
 }
 
 impl Width {
@@ -36,36 +29,28 @@ impl Width {
 fn reaches(len: usize, at: usize, n: usize) -> bool
     ensures { result ≡ leb (at + n) len }
 {
-    if len < n {
-        return false;
-    }
-    at <= len - n
+    n <= len && at <= len - n
 }
 
 // Writes the low bytes of a number, the lowest first.
-fn write(buf: &mut [u8], at: usize, n: usize, value: u64)
-    requires { at + n ≤ length buf.old }
-    ensures { buf.new ≡ pasted buf.old at (little_endian n value) }
+fn write(field: &mut [u8], value: u64)
+    ensures { field.new ≡ little_endian (length field.old) value }
 {
     let mut rest = value;
-    let mut i: usize = 0;
-    while i < n {
-        buf[at + i] = (rest % 256) as u8;
-        rest = rest / 256;
-        i = i + 1;
+    for byte in field.iter_mut() {
+        *byte = (rest % 256) as u8;
+        rest /= 256;
     }
 }
 
-// The number in n bytes, of which the last is the highest.
-fn read(buf: &[u8], at: usize, n: usize) -> u64
-    requires { (at + n ≤ length buf.now) × (n ≤ 8) }
-    ensures { (result ≡ number_from buf.now at n) × (result < 256 ^ n) }
+// The number in so many bytes, of which the last is the highest.
+fn read(field: &[u8]) -> u64
+    requires { length field.now ≤ 8 }
+    ensures { (result ≡ number_from field.now 0 (length field.now)) × (result < 256 ^ length field.now) }
 {
-    let mut number: u64 = 0;
-    let mut left = n;
-    while 0 < left {
-        left = left - 1;
-        number = 256 * number + (buf[at + left] as u64);
+    let mut number = 0;
+    for byte in field.iter().rev() {
+        number = 256 * number + (*byte as u64);
     }
     number
 }
@@ -76,20 +61,21 @@ pub fn put(buf: &mut [u8], at: usize, width: Width, value: u64)
 {
     let n = width.bytes();
     if reaches(buf.len(), at, n) {
-        write(buf, at, n, value);
+        write(&mut buf[at..at + n], value);
     }
 }
 
 // Reads a field: the number in the bytes from `at` on, if they are there.
-pub fn field_at(buf: &[u8], at: usize, width: Width) -> Found
+pub fn field_at(buf: &[u8], at: usize, width: Width) -> Option<u64>
     ensures answer { result ≡ field_at buf.now at (width_of width) }
     ensures bound { number_of result < 256 ^ width_of width }
 {
     let n = width.bytes();
-    if !reaches(buf.len(), at, n) {
-        return Found::Missing;
+    if reaches(buf.len(), at, n) {
+        Some(read(&buf[at..at + n]))
+    } else {
+        None
     }
-    Found::Number(read(buf, at, n))
 }
 
 // The number in the bytes from `at` on, 0 where it is missing.
@@ -97,8 +83,5 @@ pub fn number_at(buf: &[u8], at: usize, width: Width) -> u64
     ensures answer { result ≡ number_at buf.now at (width_of width) }
     ensures bound { result < 256 ^ width_of width }
 {
-    let Found::Number(number) = field_at(buf, at, width) else {
-        return 0;
-    };
-    number
+    field_at(buf, at, width).unwrap_or(0)
 }

@@ -1,24 +1,29 @@
 -- `fields::write` meets its contract: behind the bytes written, those of the rest are still to come.
-use Prim.Native.Nat.{◌+◌, ◌-◌, ◌%◌}
 use mathlib.Core.Path.{◌≡◌, sym, ◌∙◌}
+use Prim.Native.Nat.{◌-◌}
 use native.Mathlib.Omega.{arith}
-use lib.ListN.{length-set}
+use lib.ListN.{length, length-set}
 use Rattle.fields.specs.Fields.{little_endian}
-use Rattle.fields.proofs.Pasted.{pasted-none, number_put}
+use Rattle.fields.proofs.Numbers.{length-number}
+use Rattle.fields.proofs.Pasted.{pasted-none, pasted-whole, number_put}
 use Rattle.fields.proofs.write.Goals as goal
 
-pub loop-i-preserved : goal.loop-i-preserved
-loop-i-preserved c =
-    let a = c.args in
-    let b = c.loop-i.buf in (
-      omega arith,
-      length-set b (a.at + c.loop-i.i) (c.loop-i.rest % 256) ∙ c.loop-i.invariant.1,
-      number_put b a.at c.loop-i.i a.n c.loop-i.rest (omega arith) (omega arith) ∙ c.loop-i.invariant.2,
-    )
+pub loop-byte-preserved : goal.loop-byte-preserved
+loop-byte-preserved c =
+    let l = c.loop-byte in
+    let before = l.invariant in
+    record {
+      long = length-set l.field l.byte-index _ ∙ before.long;
+      rest = number_put l.field l.byte-index _ l.rest (omega (arith, before.long)) (omega arith) ∙ before.rest;
+    }
 
 pub returns : goal.returns
 unfolding little_endian
 returns c =
-    let a = c.args in
-    let none : a.n - c.loop-i.i ≡ 0 = omega arith in
-    sym (pasted-none c.loop-i.buf (a.at + c.loop-i.i)) ∙ rw none at c.loop-i.invariant.2
+    let l = c.loop-byte in
+    let s = c.args.field.now in
+    let n = length s in
+    let none : n - l.byte-index ≡ 0 = omega (arith, l.invariant.long) in
+    sym (pasted-none l.field l.byte-index)
+    ∙ rw none at l.invariant.rest
+    ∙ pasted-whole s (little_endian n c.args.value) (length-number n c.args.value)
