@@ -5,7 +5,7 @@ use mathlib.Core.Path.{◌≡◌, refl}
 use mathlib.Core.List.{List}
 use borrow.Author.Tests.{ne_eqb}
 use Rattle.refusal.specs.declared.Refusal.{Refusal}
-use Rattle.refusal.specs.declared.Verdict.TheVariants.{Refused}
+use Rattle.std.proofs.Common.{Err}
 use Rattle.refusal.specs.Number.{refusal_number}
 use Rattle.refusal.proofs.Distinct.{refused-some}
 use Rattle.record.specs.Calls.{put_refusal, put_buffer}
@@ -15,4 +15,4 @@ refused-put judged bytes entry refused = rw (ne_eqb _ _ refused)
 
 -- A refusal's number is not that of an acceptance.
 pub refusal-given : (r : Refusal) → refusal_number r ≡ 0 → ⊥
-refusal-given r e = refused-some {v = Refused r} refl e
+refusal-given r e = refused-some {A = Unit {0}} {v = Err r} refl e

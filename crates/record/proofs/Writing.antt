@@ -15,13 +15,10 @@ use Rattle.record.proofs.Accepted.{put-passed}
 
 module _ (judged : ℕ) (bytes entry : List ℕ) where
   pub put-no-room :
-      {n used : ℕ}
-      → judged ≡ 0
+      judged ≡ 0
       → length entry < length bytes
-      → n ≡ 7
-      → used ≡ 0
-      → (n ≡ put_refusal judged bytes entry) × ((used ≡ put_used judged bytes entry) × (entry ≡ put_buffer judged bytes entry))
-  put-no-room e h en eu = rw (e, lt-ltb (length entry) (length bytes) h) (en, (eu, refl))
+      → (7 ≡ put_refusal judged bytes entry) × (entry ≡ put_buffer judged bytes entry)
+  put-no-room e h = rw (e, lt-ltb (length entry) (length bytes) h) (refl, refl)
 
   pub put_whole :
       (used : ℕ) (exit : List ℕ)

@@ -16,7 +16,7 @@ ghost use Rattle.record.specs.Layout.{
 ghost use Rattle.record.specs.Calls.{head_refusal};
 ghost use Rattle.refusal.specs.Number.{number};
 
-use fields::{Found, Width, field_at, number_at, put};
+use fields::{Width, field_at, number_at, put};
 use fingerprint::{Fingerprint, Key};
 use refusal::{Refusal, Verdict};
 
@@ -35,14 +35,6 @@ pub const M_AT: usize = KIND_AT + 2;
 pub const KEY_AT: usize = M_AT + WORD;
 
 pub const PRINT_AT: usize = KEY_AT + KEY_SIZE;
-
-// What a writer hands back: the bytes used, 0 where the call is refused; behind a used part, the new used length, the old one where the
-// call is refused.
-#[derive(Clone, Copy)]
-pub struct Written {
-    pub verdict: Verdict,
-    pub used: usize,
-}
 
 // The number in a field of 4 bytes, 0 where it is missing.
 pub fn word_at(buf: &[u8], at: usize) -> u32
@@ -95,20 +87,20 @@ pub fn put_head(buf: &mut [u8], length: u32, kind: u64)
 pub fn check_head(buf: &[u8], kind: u64, least: u64) -> Verdict
     ensures { number result ≡ head_refusal kind least buf.now }
 {
-    let Found::Number(length) = field_at(buf, 0, Width::Word) else {
-        return Verdict::Refused(Refusal::Short);
+    let Some(length) = field_at(buf, 0, Width::Word) else {
+        return Err(Refusal::Short);
     };
     if ((buf.len() - WORD) as u64) < length {
-        return Verdict::Refused(Refusal::Short);
+        return Err(Refusal::Short);
     }
     if length < 2 {
-        return Verdict::Refused(Refusal::Misfit);
+        return Err(Refusal::Misfit);
     }
     if number_at(buf, KIND_AT, Width::Half) != kind {
-        return Verdict::Refused(Refusal::Kind);
+        return Err(Refusal::Kind);
     }
     if length < least {
-        return Verdict::Refused(Refusal::Misfit);
+        return Err(Refusal::Misfit);
     }
-    Verdict::Accepted
+    Ok(())
 }
