@@ -1,12 +1,10 @@
 -- Answers that are true just where something holds. Assumes nothing.
-use Prim.Native.Nat.{ℕ}
 use mathlib.Core.Path.{◌≡◌, refl}
 use mathlib.Core.Bool.{true, false}
-use native.Mathlib.Omega.{arith}
 use Rattle.naive_search.specs.Search.{Decides}
 
 pub never : {P : Type 0} → false ≡ true → P
-never e = let z : ◌≡◌ {A = ℕ} 0 1 = cc in absurd (omega arith)
+never e = absurd cc
 
 pub decides-no : {P : Type 0} → (P → ⊥) → Decides false P
 decides-no f = record { only = λ e. never e; wherever = λ x. absurd (f x) }

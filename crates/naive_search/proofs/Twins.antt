@@ -36,8 +36,8 @@ pub slid-first : (key : ℕ) (b h : List ℕ) (n upto : ℕ) → upto ≡ print_
 unfolding extended
 slid-first key b h n upto e = record { front = refl; whole = rw zero-add e; none = λ s l. absurd (omega arith) }
 
--- one byte more, by numbers
-more-front :
+-- One byte more, by numbers.
+pub more-front :
     (key f i : ℕ) (h : List ℕ)
     → i < length h
     → f ≡ print_number (fp (numbered_key key) (take i h))

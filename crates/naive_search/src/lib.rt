@@ -27,20 +27,9 @@ const MODULUS: u64 = 2147483647;
 pub fn occurs(stream: &[u8], start: usize, block: &[u8]) -> bool
     ensures { Decides result (Occurrence block.now stream.now start) }
 {
-    if stream.len() < block.len() {
-        return false;
-    }
-    if stream.len() - block.len() < start {
-        return false;
-    }
-    let mut i: usize = 0;
-    while i < block.len() {
-        if stream[start + i] != block[i] {
-            return false;
-        }
-        i = i + 1;
-    }
-    true
+    block.len() <= stream.len()
+        && start <= stream.len() - block.len()
+        && &stream[start..start + block.len()] == block
 }
 
 // The fingerprint with one byte more.
@@ -56,10 +45,8 @@ pub fn print_of(block: &[u8], key: u32) -> u32
     ensures { result ≡ print_number (fp (numbered_key key) block.now) }
 {
     let mut print: u32 = 0;
-    let mut i: usize = 0;
-    while i < block.len() {
-        print = more(print, key, block[i]);
-        i = i + 1;
+    for byte in block {
+        print = more(print, key, *byte);
     }
     print
 }
@@ -76,10 +63,8 @@ fn weight_of(key: u32, n: usize) -> u32
     ensures { result ≡ power_number (power (numbered_key key) n) }
 {
     let mut weight: u32 = 1;
-    let mut i: usize = 0;
-    while i < n {
+    for _ in 0..n {
         weight = times(weight, key);
-        i = i + 1;
     }
     weight
 }
@@ -114,17 +99,15 @@ fn has_twin(stream: &[u8], block: &[u8], key: u32) -> bool
     let wanted = print_of(block, key);
     let weight = weight_of(key, n);
     let mut before: u32 = 0;
-    let mut upto = print_of(&stream[0..n], key);
-    let mut start: usize = 0;
-    while start < last {
+    let mut upto = print_of(&stream[..n], key);
+    for start in 0..last {
         if is_twin(stream, start, block, key, cut(upto, before, weight), wanted) {
             return true;
         }
         before = more(before, key, stream[start]);
         upto = more(upto, key, stream[start + n]);
-        start = start + 1;
     }
-    is_twin(stream, start, block, key, cut(upto, before, weight), wanted)
+    is_twin(stream, last, block, key, cut(upto, before, weight), wanted)
 }
 
 // Whether some block of the stream collides with a prefix of the pattern, of length 1, 2, 4 .. or the whole.
@@ -133,10 +116,10 @@ pub fn collides(stream: &[u8], pattern: &[u8], key: u32) -> bool
 {
     let mut n: usize = 1;
     while n < pattern.len() {
-        if has_twin(stream, &pattern[0..n], key) {
+        if has_twin(stream, &pattern[..n], key) {
             return true;
         }
-        n = n * 2;
+        n *= 2;
     }
     has_twin(stream, pattern, key)
 }
@@ -148,8 +131,8 @@ pub fn stages(m: usize) -> u32
     let mut k: u32 = 0;
     let mut rest = m;
     while 1 < rest {
-        rest = rest - rest / 2;
-        k = k + 1;
+        rest -= rest / 2;
+        k += 1;
     }
     k
 }
