@@ -8,10 +8,8 @@ use lib.Pow.{pow-add}
 use Rattle.fingerprint.specs.declared.Key.{Key}
 use Rattle.fingerprint.specs.declared.Fingerprint.{Fingerprint}
 use Rattle.fingerprint.specs.Fingerprint.{p, Below, empty, value_of, pushed, joined, rest}
+use Rattle.fingerprint.proofs.Laws.{by_value}
 use Rattle.fingerprint.proofs.Modular.{same-residue, mod-mul, mod-mul-add}
-
-by_value : (f g : Fingerprint) → f.value ≡ g.value → f ≡ g
-by_value f g e = λ i. record { value = e i }
 
 -- cutting a common front off both sides
 divided :

@@ -3,13 +3,14 @@
 -- Assumes nothing.
 use Prim.Native.Nat.{ℕ, zero, suc, ◌+◌, ◌-◌, ◌*◌, ◌/◌, ◌%◌, ◌^◌, ◌<◌}
 use mathlib.Core.Path.{◌≡◌, refl, sym, ◌∙◌, ap}
-use mathlib.Core.Bool.{Bool, true, false, ◌&&◌}
+use mathlib.Core.Bool.{true}
 use mathlib.Core.List.{List, [], ◌∷◌, ◌++◌}
 use native.Mathlib.Nat.{pow-zero, pow-suc, add-mod-mod, mod-add-div}
 use native.Mathlib.Numerals.{add-one}
 use native.Mathlib.Omega.{arith}
 use lib.ListN.{length, get_or}
 use lib.Dec.{leb, eqb}
+use Rattle.std.proofs.lemmas.Bool.{and_parts}
 use borrow.Author.Tests.{ltb-true, lt-ltb, eqb-true, eq-eqb, le-leb, leb-true}
 use Rattle.fingerprint.specs.declared.Key.{Key}
 use Rattle.fingerprint.specs.declared.Power.{Power}
@@ -48,7 +49,7 @@ use Rattle.fingerprint.proofs.Modular.{same-residue, mod-mul, mod-mul-add, mul-m
 use Rattle.fingerprint.proofs.Powers.{power-product}
 
 -- two fingerprints with one number are equal, and so are two powers
-by_value : (f g : Fingerprint) → f.value ≡ g.value → f ≡ g
+pub by_value : (f g : Fingerprint) → f.value ≡ g.value → f ≡ g
 by_value f g e = λ i. record { value = e i }
 
 -- Equality, by its test: `==` on fingerprints and on keys compares their numbers, which is `same` and `same_key`.
@@ -223,10 +224,6 @@ pub print-back : (f : Fingerprint) → print_of (print_numbers f) ≡ f
 unfolding print_of print_numbers
 print-back f = refl
 
-and_right : (a b : Bool) → a && b ≡ true → b ≡ true
-and_right true b e = e
-and_right false b e = cc
-
 -- How many numbers each puts into a record, and that each fits a field of 4 bytes.
 pub key-numbers-length : (key : Key) → length (key_numbers key) ≡ 1
 unfolding key_numbers
@@ -238,7 +235,7 @@ print-numbers-length f = refl
 
 pub key-numbers-small : (key : Key) → key_fits key ≡ true → (i : ℕ) → get_or (key_numbers key) i 0 < 4294967296
 unfolding key_numbers key_fits
-key-numbers-small key e zero = omega (arith, leb-true key.r 2147483646 (and_right (leb 2 key.r) _ e))
+key-numbers-small key e zero = omega (arith, leb-true key.r 2147483646 (and_parts (leb 2 key.r) _ e).1)
 key-numbers-small key e (suc i) = omega arith
 
 pub print-numbers-small : (f : Fingerprint) → Below f → (i : ℕ) → get_or (print_numbers f) i 0 < 4294967296
