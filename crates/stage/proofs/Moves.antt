@@ -11,36 +11,36 @@ use Rattle.lists.proofs.Cases.{by-test}
 use Rattle.lists.proofs.Laws.{and_left, and_right}
 use Rattle.stage.specs.declared.Mark.{Mark}
 use Rattle.stage.specs.declared.Stage.{Stage}
-use Rattle.stage.specs.declared.Aside.TheVariants.{Nothing, Set}
+use Rattle.std.specs.Prelude.{Some, None}
 use Rattle.stage.specs.Stage.{max_taken, max_count, no_stage, same_gap, gap_to, forward, alone, taken_off, entered, all_but_last, take_off_of, can_enter, entry_of, quiet_until}
 
 module _ (key : Key) (s : Stage) where
   abbrev second : ℕ
   second = s.first.at + s.step.length
 
-  pub off-few : s.held ≤ 1 → take_off_of key s ≡ no_stage
+  pub off_few : s.held ≤ 1 → take_off_of key s ≡ no_stage
   unfolding take_off_of taken_off
-  off-few h =
+  off_few h =
       by-test (eqb s.held 0) (λ e. rw e)
       (λ e.
       let one : s.held ≡ 1 = omega (arith, eqb-false s.held 0 e) in
       rw (e, eq-eqb s.held 1 one) (by-test (leb second max_taken) (λ f. rw f) (λ f. rw f)))
 
-  pub off-past : (s.held ≡ 0 → ⊥) → max_taken < second → take_off_of key s ≡ no_stage
+  pub off_past : (s.held ≡ 0 → ⊥) → max_taken < second → take_off_of key s ≡ no_stage
   unfolding take_off_of
-  off-past n h = rw (ne_eqb s.held 0 n, lt-leb second max_taken h)
+  off_past n h = rw (ne_eqb s.held 0 n, lt-leb second max_taken h)
 
   module _ (room : second ≤ max_taken) where
-    pub off-two : s.held ≡ 2 → take_off_of key s ≡ alone s.last
+    pub off_two : s.held ≡ 2 → take_off_of key s ≡ alone s.last
     unfolding take_off_of taken_off
-    off-two e = rw (e, le-leb second max_taken room)
+    off_two e = rw (e, le-leb second max_taken room)
 
-    pub off-more :
+    pub off_more :
         2 < s.held
         → take_off_of key s
         ≡ record { held = s.held - 1; first = forward key s.first s.step; last = s.last; step = s.step }
     unfolding take_off_of taken_off
-    off-more h =
+    off_more h =
         rw (
           ne_eqb s.held 0 (omega arith),
           ne_eqb s.held 1 (omega arith),
@@ -49,13 +49,13 @@ module _ (key : Key) (s : Stage) where
         )
 
 module _ (key : Key) (s : Stage) (new : Mark) where
-  pub enter-none : s.held ≡ 0 → entry_of key s new ≡ record { stage = alone new; aside = Nothing }
+  pub enter_none : s.held ≡ 0 → entry_of key s new ≡ record { stage = alone new; aside = None }
   unfolding entry_of entered
-  enter-none e = rw e
+  enter_none e = rw e
 
-  pub enter-full : can_enter s new ≡ false → entry_of key s new ≡ record { stage = no_stage; aside = Nothing }
+  pub enter_full : can_enter s new ≡ false → entry_of key s new ≡ record { stage = no_stage; aside = None }
   unfolding entry_of
-  enter-full e = rw e
+  enter_full e = rw e
 
   -- what is left of a stage whose last start and newcomer remain
   abbrev pair : Stage
@@ -74,21 +74,21 @@ module _ (key : Key) (s : Stage) (new : Mark) where
       by-test (eqb s.held 0) (λ e. rw e)
       (λ e. rw (e, lt-ltb s.held max_count h, le-leb (new.at - s.last.at) max_count g))
 
-  pub enter-second :
-      s.held ≡ 1 → new.at - s.last.at ≤ max_count → entry_of key s new ≡ record { stage = pair; aside = Nothing }
+  pub enter_second :
+      s.held ≡ 1 → new.at - s.last.at ≤ max_count → entry_of key s new ≡ record { stage = pair; aside = None }
   unfolding entry_of entered
-  enter-second e g = rw (can-enter (omega arith) g, e)
+  enter_second e g = rw (can-enter (omega arith) g, e)
 
   module _ (two : 2 ≤ s.held) (room : s.held < max_count) (near : new.at - s.last.at ≤ max_count) where
-    pub enter-longer :
+    pub enter_longer :
         same_gap (gap_to key s.last new) s.step ≡ true
         → entry_of key s new
         ≡ record {
           stage = record { held = suc s.held; first = s.first; last = new; step = s.step };
-          aside = Nothing;
+          aside = None;
         }
     unfolding entry_of entered
-    enter-longer e =
+    enter_longer e =
         rw (
           can-enter room near,
           ne_eqb s.held 0 (omega arith),
@@ -97,11 +97,11 @@ module _ (key : Key) (s : Stage) (new : Mark) where
           e,
         )
 
-    pub enter-aside :
+    pub enter_aside :
         same_gap (gap_to key s.last new) s.step ≡ false
-        → entry_of key s new ≡ record { stage = pair; aside = Set (all_but_last s) }
+        → entry_of key s new ≡ record { stage = pair; aside = Some (all_but_last s) }
     unfolding entry_of entered
-    enter-aside e =
+    enter_aside e =
         rw (
           can-enter room near,
           ne_eqb s.held 0 (omega arith),

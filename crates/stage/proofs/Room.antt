@@ -15,7 +15,7 @@ use Rattle.stage.specs.declared.Mark.{Mark}
 use Rattle.stage.specs.declared.Stage.{Stage}
 use Rattle.stage.specs.Stage.{max_taken, taken_off, entered, aside_of, take_off_of, can_enter, entry_of}
 use Rattle.stage.proofs.Fit.{Fit, idle, single, several, Many}
-use Rattle.stage.proofs.Moves.{off-few, can-enter}
+use Rattle.stage.proofs.Moves.{off_few, can-enter}
 
 module _ (m i lo hi : ℕ) (s : Stage) (in_order : lo ≤ hi) where
   few-many : Many m i lo hi s → s.held ≤ suc m
@@ -48,7 +48,7 @@ module _ (m i lo hi : ℕ) (s : Stage) (in_order : lo ≤ hi) where
   unfolding take_off_of taken_off
   take-off-fits key l n (idle e) = absurd (n (ap (λ (u : Stage). u.held) e))
   take-off-fits key l n (single q) =
-      off-few key s (omega (arith, ap (λ (u : Stage). u.held) q.shape)) ∙ sym (rw (ap (λ (u : Stage). u.held) q.shape, taken_off))
+      off_few key s (omega (arith, ap (λ (u : Stage). u.held) q.shape)) ∙ sym (rw (ap (λ (u : Stage). u.held) q.shape, taken_off))
   take-off-fits key l n (several q) =
       rw (
         ne_eqb s.held 0 n,

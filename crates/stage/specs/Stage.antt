@@ -1,15 +1,13 @@
 -- One stage of a watch: when it misfits (document 01, "Misfit"), and how starts come and go (document 01, "Ladder"). Defined for every
 -- stage, also for those to which no history leads.
-use Rattle.std.specs.Prelude.{ℕ, suc, ◌+◌, ◌-◌, ◌*◌, min, Bool, true, cond, not, ◌&&◌, ltb, leb, eqb}
+use Rattle.std.specs.Prelude.{ℕ, suc, ◌+◌, ◌-◌, ◌*◌, min, Bool, true, cond, not, ◌&&◌, ltb, leb, eqb, Option, Some, None}
 use Rattle.fingerprint.specs.declared.Key.{Key}
-use Rattle.fingerprint.specs.Fingerprint.{print_fits, same, empty, joined, joined_times, rest}
+use Rattle.fingerprint.specs.Fingerprint.{print_fits, same, empty, pushed, joined, joined_times, rest}
 use Rattle.ladder.specs.Prefix.{levels, prefix_length}
 use Rattle.stage.specs.declared.Mark.{Mark}
 use Rattle.stage.specs.declared.Gap.{Gap}
 use Rattle.stage.specs.declared.Stage.{Stage}
 use Rattle.stage.specs.declared.Progression.{Progression}
-use Rattle.stage.specs.declared.Aside.{Aside}
-use Rattle.stage.specs.declared.Aside.TheVariants.{Nothing, Set}
 use Rattle.stage.specs.declared.Entry.{Entry}
 
 -- The most bytes that a watch takes, and so the last place in a stream: "the stream run to 1099511627775 bytes" (document 02, A.5).
@@ -95,6 +93,10 @@ last_fits key s =
 unfoldable pub stage_fits : Key → ℕ → ℕ → ℕ → Stage → Bool
 stage_fits key m i t s = shape_fits m i t s && last_fits key s
 
+-- The mark with one byte more: t and F_t behind the next byte.
+abbrev pub next_mark : Key → Mark → ℕ → Mark
+next_mark key now byte = record { at = suc now.at; print = pushed key now.print byte }
+
 -- The block between two marks: "the print of a gap comes from F_last and the newcomer's F".
 abbrev pub gap_to : Key → Mark → Mark → Gap
 gap_to key a b = record { length = b.at - a.at; print = rest key b.print a.print (b.at - a.at) }
@@ -132,8 +134,8 @@ sets_aside key s new = ltb 1 s.held && not (same_gap (gap_to key s.last new) s.s
 abbrev pub all_but_last : Stage → Progression
 all_but_last s = record { first = s.first.at; step = s.step.length; many = s.held - 1 }
 
-abbrev pub aside_of : Key → Stage → Mark → Aside
-aside_of key s new = cond (sets_aside key s new) (Set (all_but_last s)) Nothing
+abbrev pub aside_of : Key → Stage → Mark → Option Progression
+aside_of key s new = cond (sets_aside key s new) (Some (all_but_last s)) None
 
 -- "If stage i lists the start t - |P_(i+1)|": in a watch that is no misfit only its first can be that.
 abbrev pub ripe_at : ℕ → ℕ → Stage → Bool
@@ -158,4 +160,4 @@ can_enter s new = cond (eqb s.held 0) true (ltb s.held max_count && leb (new.at 
 unfoldable pub entry_of : Key → Stage → Mark → Entry
 entry_of key s new =
     cond (can_enter s new) (record { stage = entered key s new; aside = aside_of key s new })
-    (record { stage = no_stage; aside = Nothing })
+    (record { stage = no_stage; aside = None })

@@ -5,7 +5,7 @@ ghost use Rattle.std.specs.Prelude.{◌≡◌, true, ℕ, ◌+◌, ◌-◌, ◌�
 ghost use Rattle.fingerprint.specs.declared.Key.{Key};
 ghost use Rattle.ladder.specs.Prefix.{prefix_length};
 ghost use Rattle.powers.specs.Powers.{powers_of};
-ghost use Rattle.stage.specs.Stage.{max_taken, max_count, origin, now_fits, no_gap, no_stage, same_mark, same_gap, age_fits, none_fits, one_fits, many_fit, stage_prints_fit, reach_fits, shape_fits, last_fits, gap_to, forward, alone, take_off_of, can_enter, entry_of, ripe_at, quiet_until};
+ghost use Rattle.stage.specs.Stage.{max_taken, max_count, origin, now_fits, no_gap, no_stage, age_fits, none_fits, one_fits, many_fit, stage_prints_fit, reach_fits, shape_fits, last_fits, next_mark, gap_to, forward, alone, take_off_of, can_enter, entry_of, ripe_at, quiet_until};
 ghost use Rattle.stage.specs.Stages.{listed_from};
 
 use fingerprint::{Fingerprint, Key};
@@ -15,27 +15,27 @@ use powers::Powers;
 pub const MAX_TAKEN: u64 = 1099511627775;
 
 // The most starts that a stage counts, and the longest step: both have 32 bits.
-const MAX_COUNT: u32 = 4294967295;
+const MAX_COUNT: u32 = u32::MAX;
 
 // Places for stages.
 pub const STAGES: usize = 20;
 
 // A place in the stream, with the fingerprint of all bytes before it: a start and its F, or t and F_t.
-#[derive(Clone, Copy)]
+#[derive(Clone, Copy, PartialEq, Eq, Debug)]
 pub struct Mark {
     pub at: u64,
     pub print: Fingerprint,
 }
 
 // A block of the stream, by its length and fingerprint: the step and the step print.
-#[derive(Clone, Copy)]
+#[derive(Clone, Copy, PartialEq, Eq, Debug)]
 pub struct Gap {
     pub length: u32,
     pub print: Fingerprint,
 }
 
 // The starts of one stage, an arithmetic progression: how many are held, the first, the last and the step between them.
-#[derive(Clone, Copy)]
+#[derive(Clone, Copy, PartialEq, Eq, Debug)]
 pub struct Stage {
     pub held: u32,
     pub first: Mark,
@@ -44,35 +44,18 @@ pub struct Stage {
 }
 
 // A set that was set aside: first, step and how many.
-#[derive(Clone, Copy)]
+#[derive(Clone, Copy, PartialEq, Eq, Debug)]
 pub struct Progression {
     pub first: u64,
     pub step: u32,
     pub many: u32,
 }
 
-// What entering a stage sets aside.
-#[derive(Clone, Copy)]
-pub enum Aside {
-    Nothing,
-    Set(Progression),
-}
-
-// What entering makes of a stage: the stage then, and the set set aside.
-#[derive(Clone, Copy)]
+// What entering makes of a stage: the stage then, and the set that was set aside, if one was.
+#[derive(Clone, Copy, PartialEq, Eq, Debug)]
 pub struct Entry {
     pub stage: Stage,
-    pub aside: Aside,
-}
-
-// How many bytes stand between two places, none if the second comes first.
-pub fn distance(from: u64, to: u64) -> u64
-    ensures { result ≡ to - from }
-{
-    if to < from {
-        return 0;
-    }
-    to - from
+    pub aside: Option<Progression>,
 }
 
 impl Mark {
@@ -90,25 +73,21 @@ impl Mark {
     pub fn fits(self) -> bool
         ensures { result ≡ now_fits self }
     {
-        if MAX_TAKEN < self.at {
-            return false;
-        }
-        let print = self.print;
-        if !print.fits() {
-            return false;
-        }
-        signature::running_fits(self.at, print)
+        self.at <= MAX_TAKEN && self.print.fits() && signature::running_fits(self.at, self.print)
     }
 
-    fn equals(self, other: Mark) -> bool
-        ensures { result ≡ same_mark self other }
+    // The mark behind one byte more. Behind the last place there is none, and the mark stays.
+    pub fn next(self, key: Key, byte: u8) -> Mark
+        ensures more { self.at < max_taken → result ≡ next_mark key self byte }
+        ensures last { max_taken ≤ self.at → result ≡ self }
     {
-        if self.at == other.at {
-            let a = self.print;
-            let b = other.print;
-            return a.equals(b);
+        if MAX_TAKEN <= self.at {
+            return self;
         }
-        false
+        Mark {
+            at: self.at + 1,
+            print: self.print.push(key, byte),
+        }
     }
 
     // The block from here to another mark.
@@ -116,11 +95,10 @@ impl Mark {
         requires { to.at - self.at ≤ max_count }
         ensures { result ≡ gap_to key self to }
     {
-        let length = distance(self.at, to.at);
-        let from = self.print;
+        let length = to.at.saturating_sub(self.at);
         Gap {
             length: length as u32,
-            print: to.print.cut(key, from, length),
+            print: to.print.cut(key, self.print, length),
         }
     }
 
@@ -129,11 +107,10 @@ impl Mark {
         requires { self.at + gap.length ≤ max_taken }
         ensures { result ≡ forward key self gap }
     {
-        let length = gap.length;
-        let print = gap.print;
+        let length = gap.length as u64;
         Mark {
-            at: self.at + (length as u64),
-            print: self.print.join(key, print, length as u64),
+            at: self.at + length,
+            print: self.print.join(key, gap.print, length),
         }
     }
 }
@@ -147,42 +124,20 @@ impl Gap {
             print: Fingerprint::empty(),
         }
     }
-
-    fn equals(self, other: Gap) -> bool
-        ensures { result ≡ same_gap self other }
-    {
-        if self.length == other.length {
-            let a = self.print;
-            let b = other.print;
-            return a.equals(b);
-        }
-        false
-    }
 }
 
 // Whether t - start is from `short` to `long` - 1.
 fn age_fits(short: u32, long: u32, t: u64, start: u64) -> bool
     ensures { result ≡ age_fits short long t start }
 {
-    if t < start {
-        return false;
-    }
-    let age = t - start;
-    if age < (short as u64) {
-        return false;
-    }
-    age < (long as u64)
+    start <= t && (short as u64) <= t - start && t - start < (long as u64)
 }
 
 // Whether `last` is `first` + n × `step`.
 fn reach_fits(first: u64, last: u64, n: u32, step: u32) -> bool
     ensures { result ≡ reach_fits first last n step }
 {
-    if last < first {
-        return false;
-    }
-    let reach = last - first;
-    reach == (n as u64) * (step as u64)
+    first <= last && last - first == (n as u64) * (step as u64)
 }
 
 impl Stage {
@@ -212,78 +167,46 @@ impl Stage {
     }
 
     // Held 0: the rest is 0.
+    #[tactic(auto, unfolding(crate::specs::Stage::none_fits, fingerprint::specs::Fingerprint::same))]
     pub fn none_fits(self) -> bool
         ensures { result ≡ none_fits self }
     {
-        let first = self.first;
-        let last = self.last;
-        let step = self.step;
-        let origin = Mark::origin();
-        if !first.equals(origin) {
-            return false;
-        }
-        if !last.equals(origin) {
-            return false;
-        }
-        step.equals(Gap::none())
+        self.first == Mark::origin() && self.last == Mark::origin() && self.step == Gap::none()
     }
 
     // Held 1: the last is the first, and there is no step.
+    #[tactic(auto, unfolding(crate::specs::Stage::one_fits, fingerprint::specs::Fingerprint::same))]
     fn one_fits(self, short: u32, long: u32, t: u64) -> bool
         ensures { result ≡ one_fits short long t self }
     {
-        let first = self.first;
-        let last = self.last;
-        let step = self.step;
-        if !first.print.fits() {
-            return false;
-        }
-        if !age_fits(short, long, t, first.at) {
-            return false;
-        }
-        if !last.equals(first) {
-            return false;
-        }
-        step.equals(Gap::none())
+        self.first.print.fits()
+            && age_fits(short, long, t, self.first.at)
+            && self.last == self.first
+            && self.step == Gap::none()
     }
 
     // Held 2 or more: a step, which leads from the first to the last.
+    #[tactic(auto, unfolding(crate::specs::Stage::many_fit))]
     fn many_fit(self, short: u32, long: u32, t: u64) -> bool
         requires { 1 ≤ self.held }
         ensures { result ≡ many_fit short long t self }
     {
-        if !self.prints_fit() {
-            return false;
-        }
-        if !age_fits(short, long, t, self.first.at) {
-            return false;
-        }
-        if !age_fits(short, long, t, self.last.at) {
-            return false;
-        }
-        if self.step.length == 0 {
-            return false;
-        }
-        reach_fits(self.first.at, self.last.at, self.held - 1, self.step.length)
+        self.prints_fit()
+            && age_fits(short, long, t, self.first.at)
+            && age_fits(short, long, t, self.last.at)
+            && self.step.length != 0
+            && reach_fits(self.first.at, self.last.at, self.held - 1, self.step.length)
     }
 
     // Whether the stage's three fingerprints are below P.
     fn prints_fit(self) -> bool
         ensures { result ≡ stage_prints_fit self }
     {
-        let first = self.first.print;
-        let last = self.last.print;
-        let step = self.step.print;
-        if !first.fits() {
-            return false;
-        }
-        if !last.fits() {
-            return false;
-        }
-        step.fits()
+        self.first.print.fits() && self.last.print.fits() && self.step.print.fits()
     }
 
     // Whether document 01's rules hold of stage i of a watch over m bytes, at t.
+    #[tactic(auto, using(crate::proofs::Levels::short_below, crate::proofs::Levels::whole_past, crate::proofs::Levels::short_small), unfolding(crate::specs::Stage::shape_fits))]
     pub fn shape_fits(self, m: u32, i: u32, t: u64) -> bool
         ensures { result ≡ shape_fits m i t self }
     {
@@ -296,51 +219,43 @@ impl Stage {
         }
         let long = signature::prefix_length(m, i + 1);
         if self.held == 1 {
-            return self.one_fits(short, long, t);
+            self.one_fits(short, long, t)
+        } else {
+            self.many_fit(short, long, t)
         }
-        self.many_fit(short, long, t)
     }
 
     // Held 2 or more: F_last is F_first with the step print joined held - 1 times (document 02, A.7), in as many joins as held has binary
-    // digits, twice. What is said of powers holds of those of any key, so of all there are.
-    pub fn last_fits(self, powers: Powers) -> bool
-        ensures { (key : Key) (most : ℕ) → powers ≡ powers_of key most → result ≡ last_fits key self }
+    // digits, twice.
+    #[tactic(auto, unfolding(crate::specs::Stage::last_fits, fingerprint::specs::Fingerprint::same))]
+    pub fn last_fits(self, powers: &Powers) -> bool
+        ensures { result ≡ last_fits powers.now.key self }
     {
         if self.held < 2 {
             return true;
         }
+        let shift = powers.raise(self.step.length);
         let first = self.first.print;
-        let last = self.last.print;
-        let step = self.step;
-        let shift = powers.raise(step.length);
-        let reached = first.join_times(step.print, shift, self.held - 1);
-        last.equals(reached)
+        let reached = first.join_times(self.step.print, shift, self.held - 1);
+        self.last.print == reached
     }
 
     // The stage without its first start. A stage that holds none, or whose second start is past the last place, loses all.
+    #[tactic(auto, using(crate::proofs::Moves::off_few, crate::proofs::Moves::off_past, crate::proofs::Moves::off_two, crate::proofs::Moves::off_more))]
     pub fn take_off(self, key: Key) -> Stage
         ensures { result ≡ take_off_of key self }
     {
-        if self.held <= 1 {
+        let second = self.first.at.saturating_add(self.step.length as u64);
+        if self.held <= 1 || MAX_TAKEN < second {
             return Stage::none();
         }
-        let step = self.step;
-        if MAX_TAKEN < self.first.at {
-            return Stage::none();
-        }
-        if MAX_TAKEN - self.first.at < (step.length as u64) {
-            return Stage::none();
-        }
-        let last = self.last;
         if self.held == 2 {
-            return Stage::alone(last);
+            return Stage::alone(self.last);
         }
-        let first = self.first.forward(key, step);
         Stage {
             held: self.held - 1,
-            first,
-            last,
-            step,
+            first: self.first.forward(key, self.step),
+            ..self
         }
     }
 
@@ -348,30 +263,26 @@ impl Stage {
     fn can_enter(self, new: Mark) -> bool
         ensures { result ≡ can_enter self new }
     {
-        if self.held == 0 {
-            return true;
-        }
-        if MAX_COUNT <= self.held {
-            return false;
-        }
-        distance(self.last.at, new.at) <= (MAX_COUNT as u64)
+        self.held == 0
+            || (self.held < MAX_COUNT && new.at.saturating_sub(self.last.at) <= (MAX_COUNT as u64))
     }
 
     // The stage with a newcomer behind its last start. A stage that holds as many as can be counted, or whose last start is too far off, loses
     // all.
+    #[tactic(auto, using(crate::proofs::Moves::enter_none, crate::proofs::Moves::enter_full))]
     pub fn enter(self, key: Key, new: Mark) -> Entry
         ensures { result ≡ entry_of key self new }
     {
         if !self.can_enter(new) {
             return Entry {
                 stage: Stage::none(),
-                aside: Aside::Nothing,
+                aside: None,
             };
         }
         if self.held == 0 {
             return Entry {
                 stage: Stage::alone(new),
-                aside: Aside::Nothing,
+                aside: None,
             };
         }
         let gap = self.last.gap_to(key, new);
@@ -379,39 +290,38 @@ impl Stage {
     }
 
     // The same for a stage that lists a start, where `gap` leads from its last one to the newcomer.
+    #[tactic(auto, using(crate::proofs::Moves::enter_second, crate::proofs::Moves::enter_longer, crate::proofs::Moves::enter_aside), unfolding(fingerprint::specs::Fingerprint::same))]
     fn join(self, gap: Gap, new: Mark) -> Entry
         requires { (1 ≤ self.held) × (self.held < max_count) × (new.at - self.last.at ≤ max_count) }
         ensures { (key : Key) → gap ≡ gap_to key self.last new → result ≡ entry_of key self new }
     {
-        let last = self.last;
         let pair = Stage {
             held: 2,
-            first: last,
+            first: self.last,
             last: new,
             step: gap,
         };
         if self.held == 1 {
             return Entry {
                 stage: pair,
-                aside: Aside::Nothing,
+                aside: None,
             };
         }
-        let step = self.step;
-        if gap.equals(step) {
+        if gap == self.step {
             return Entry {
                 stage: Stage {
                     held: self.held + 1,
                     last: new,
                     ..self
                 },
-                aside: Aside::Nothing,
+                aside: None,
             };
         }
         Entry {
             stage: pair,
-            aside: Aside::Set(Progression {
+            aside: Some(Progression {
                 first: self.first.at,
-                step: step.length,
+                step: self.step.length,
                 many: self.held - 1,
             }),
         }
@@ -425,23 +335,14 @@ impl Stage {
             return false;
         }
         let length = signature::prefix_length(m, i) as u64;
-        if t < length {
-            return false;
-        }
-        self.first.at == t - length
+        length <= t && self.first.at == t - length
     }
 
     // Whether the stage lists no start below a count.
     pub fn listed_from(self, since: u64) -> bool
         ensures { result ≡ listed_from since self }
     {
-        if self.held == 0 {
-            return true;
-        }
-        if self.first.at < since {
-            return false;
-        }
-        since <= self.last.at
+        self.held == 0 || (since <= self.first.at && since <= self.last.at)
     }
 
     // `until`, or less: the last t at which the first start is not yet ripe, which it is |P_i| bytes behind itself.
@@ -452,12 +353,9 @@ impl Stage {
             return until;
         }
         let length = signature::prefix_length(m, i) as u64;
-        if until < length {
+        if until < length || until - length < self.first.at {
             return until;
         }
-        if until - length < self.first.at {
-            return until;
-        }
-        distance(1, self.first.at + length)
+        (self.first.at + length).saturating_sub(1)
     }
 }
