@@ -2,7 +2,7 @@
 -- Assumes nothing.
 use Prim.Native.Nat.{ℕ, zero, suc, ◌+◌, ◌-◌, ◌≤◌, ◌<◌}
 use mathlib.Core.Path.{◌≡◌, refl, sym, ◌∙◌, ap}
-use mathlib.Core.Bool.{true, false, true≢false}
+use mathlib.Core.Bool.{false, true≢false}
 use native.Mathlib.Decide.{ℕ_discrete}
 use native.Mathlib.Omega.{arith}
 use lib.Dec.{eqb}
@@ -17,12 +17,12 @@ use Rattle.lists.proofs.Cases.{by-test}
 use Rattle.signature.specs.declared.Signature.{Signature}
 use Rattle.stage.specs.declared.Mark.{Mark}
 use Rattle.stage.specs.declared.Stage.{Stage}
-use Rattle.stage.specs.Stage.{quiet_until}
+use Rattle.stage.specs.Stage.{next_mark, quiet_until}
 use Rattle.stage.proofs.Moves.{quiet-most, quiet-before}
 use Rattle.stage.specs.Stages.{Stages, stage_at}
 use Rattle.walk.specs.declared.Walk.{Walk}
 use Rattle.walk.specs.declared.Round.{Round}
-use Rattle.walk.specs.Walk.{no_answer, compared, next_mark, matches, tried, ripe, descended, walked_from}
+use Rattle.walk.specs.Walk.{no_answer, compared, matches, tried, ripe, descended, walked_from}
 use Rattle.walk.specs.Quiet.{is_first, Unripe}
 use Rattle.walk.proofs.Visits.{visit-unripe}
 

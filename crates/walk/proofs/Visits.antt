@@ -13,7 +13,7 @@ use Rattle.lists.proofs.Cases.{by-test}
 use Rattle.stage.specs.declared.Mark.{Mark}
 use Rattle.stage.specs.declared.Stage.{Stage}
 use Rattle.stage.specs.declared.Progression.{Progression}
-use Rattle.stage.specs.declared.Aside.TheVariants.{Nothing, Set}
+use Rattle.std.specs.Prelude.{Some, None}
 use Rattle.stage.specs.Stage.{taken_off, entered, sets_aside, all_but_last}
 use Rattle.stage.specs.Stages.{Whole, stage_at, with_stage}
 use Rattle.stage.proofs.Stages.{whole_with}
@@ -23,7 +23,7 @@ use Rattle.walk.specs.declared.Walk.{Walk}
 use Rattle.walk.specs.Walk.{with_set, with_aside, compared, ripe, matches, promoted, promoted_under, tried, visited}
 
 -- what entering set aside, put into the answer
-pub with_aside_lem : (b : Bool) (x : Progression) (a : Answer) → with_aside (cond b (Set x) Nothing) a ≡ cond b (with_set x a) a
+pub with_aside_lem : (b : Bool) (x : Progression) (a : Answer) → with_aside (cond b (Some x) None) a ≡ cond b (with_set x a) a
 with_aside_lem true x a = refl
 with_aside_lem false x a = refl
 

@@ -1,18 +1,14 @@
 -- One byte's walk over the stages of a card, which stores, for each stage, held, first, last and step (document 01, "Ladder"). Defined for
 -- all stages, also for those to which no history leads. `Refinement` shows that it is the ladder with unlimited lists.
-use Rattle.std.specs.Prelude.{ℕ, zero, suc, Bool, true, false, cond, ◌&&◌, get_or, set, replicate, eqb}
+use Rattle.std.specs.Prelude.{ℕ, zero, suc, Bool, cond, ◌&&◌, get_or, set, replicate, eqb, Option, Some, None, is_none}
 use Rattle.fingerprint.specs.declared.Key.{Key}
-use Rattle.fingerprint.specs.Fingerprint.{same, empty, pushed}
+use Rattle.fingerprint.specs.Fingerprint.{same, empty}
 use Rattle.ladder.specs.Prefix.{levels, prefix_length}
 use Rattle.stage.specs.declared.Mark.{Mark}
 use Rattle.stage.specs.declared.Stage.{Stage}
 use Rattle.stage.specs.declared.Progression.{Progression}
-use Rattle.stage.specs.declared.Aside.{Aside}
-use Rattle.stage.specs.declared.Aside.TheVariants.{Nothing, Set}
 use Rattle.stage.specs.Stage.{gap_to, taken_off, entered, sets_aside, all_but_last, ripe_at}
 use Rattle.stage.specs.Stages.{stage_count, Stages, stage_at, with_stage}
-use Rattle.walk.specs.declared.Ring.{Ring}
-use Rattle.walk.specs.declared.Ring.TheVariants.{Silent, At}
 use Rattle.walk.specs.declared.Answer.{Answer}
 pub use Rattle.walk.specs.declared.Round.{Round}
 pub use Rattle.walk.specs.declared.Walk.{Walk}
@@ -22,26 +18,22 @@ no_progression = record { first = 0; step = 0; many = 0 }
 
 -- the answer before anything was found, and where a byte is refused
 abbrev pub no_answer : Answer
-no_answer = record { ring = Silent; sets = replicate stage_count no_progression; asides = 0; comparisons = 0 }
+no_answer = record { ring = None; sets = replicate stage_count no_progression; asides = 0; comparisons = 0 }
 
 -- Whether an answer has no ring and no set.
-abbrev pub silent_ring : Ring → Bool
-silent_ring Silent = true
-silent_ring (At start) = false
-
 abbrev pub silent : Answer → Bool
-silent a = silent_ring a.ring && eqb a.asides 0
+silent a = is_none a.ring && eqb a.asides 0
 
 abbrev pub ringing : ℕ → Answer → Answer
-ringing start a = record { ring = At start; sets = a.sets; asides = a.asides; comparisons = a.comparisons }
+ringing start a = record { ring = Some start; sets = a.sets; asides = a.asides; comparisons = a.comparisons }
 
 abbrev pub with_set : Progression → Answer → Answer
 with_set x a =
     record { ring = a.ring; sets = set a.sets a.asides x; asides = suc a.asides; comparisons = a.comparisons }
 
-abbrev pub with_aside : Aside → Answer → Answer
-with_aside Nothing a = a
-with_aside (Set x) a = with_set x a
+abbrev pub with_aside : Option Progression → Answer → Answer
+with_aside None a = a
+with_aside (Some x) a = with_set x a
 
 abbrev pub compared : Answer → Answer
 compared a =
@@ -85,10 +77,6 @@ visited c i w =
 unfoldable pub descended : Round → ℕ → Walk → Walk
 descended c zero w = w
 descended c (suc i) w = descended c i (visited c i w)
-
--- t and F_t with one byte more
-abbrev pub next_mark : Key → Mark → ℕ → Mark
-next_mark key now byte = record { at = suc now.at; print = pushed key now.print byte }
 
 -- "At each byte": the stages, and then "start t-1 is compared with P_0".
 unfoldable pub walked_from : Round → Mark → Stages → Walk
