@@ -1,7 +1,7 @@
 -- Whether a field's bytes are there: what the tests of places decide.
 -- Assumes nothing.
 use Prim.Native.Nat.{ℕ, ◌+◌, ◌-◌, ◌^◌, ◌≤◌, ◌<◌}
-use mathlib.Core.Path.{◌≡◌, refl, sym, ◌∙◌, ap}
+use mathlib.Core.Path.{◌≡◌, sym, ◌∙◌, ap}
 use mathlib.Core.Bool.{Bool, true, false}
 use mathlib.Core.List.{List}
 use native.Mathlib.Nat.{one-le-pow}
@@ -11,10 +11,9 @@ use lib.Dec.{leb}
 use lib.ListN.{length, take, drop, length-drop}
 use lib.Seq.{length-take-le}
 use borrow.Author.Tests.{le-leb, lt-leb, leb-true}
-use Rattle.std.specs.Option.{unwrap_or}
 use Rattle.fields.specs.declared.Width.{Width}
 use Rattle.fields.specs.declared.Width.TheVariants.{Half, Word, Double}
-use Rattle.std.proofs.Common.{Option, Some, None}
+use Rattle.std.proofs.Common.{Some, None}
 use Rattle.fields.specs.Fields.{little_endian, number_from, number_at, pasted}
 use Rattle.fields.specs.Calls.{width_of, field_at, number_of}
 use Rattle.fields.proofs.Numbers.{length-number, number-part}
@@ -33,11 +32,6 @@ reaches-by len at n h =
 pub told :
     (s : List ℕ) (at : ℕ) {n w : ℕ} {ok b : Bool} → n ≡ w → ok ≡ leb (at + n) (length s) → ok ≡ b → leb (at + w) (length s) ≡ b
 told s at e t h = rw (← e) (sym t ∙ h)
-
--- what is missing counts as 0
-pub number-or : (found : Option ℕ) → unwrap_or found 0 ≡ number_of found
-number-or None = refl
-number-or (Some n) = refl
 
 -- 0 can be said in any width, and a width is within 8 bytes.
 pub some_number : (w : ℕ) → 0 < 256 ^ w

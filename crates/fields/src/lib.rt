@@ -83,5 +83,9 @@ pub fn number_at(buf: &[u8], at: usize, width: Width) -> u64
     ensures answer { result ≡ number_at buf.now at (width_of width) }
     ensures bound { result < 256 ^ width_of width }
 {
-    field_at(buf, at, width).unwrap_or(0)
+    // (`unwrap_or(0)` would do: that field readers use let else is document 01's form.)
+    let Some(number) = field_at(buf, at, width) else {
+        return 0;
+    };
+    number
 }
