@@ -9,23 +9,21 @@ use native.Mathlib.Omega.{arith}
 use lib.Dec.{eqb, leb, ltb}
 use lib.ListN.{length}
 use borrow.Author.Tests.{ltb-true, leb-true, eqb-true, leb-false}
+use Rattle.std.proofs.Common.{Option, Some, None}
 use Rattle.lists.proofs.Laws.{and_left, and_right}
 use Rattle.lists.proofs.Cases.{either}
 use Rattle.midi_file.specs.declared.event.Quantity.{Quantity}
-use Rattle.midi_file.specs.declared.event.Quantity.TheVariants.{Value, NoValue}
 use Rattle.midi_file.specs.declared.event.Event.{Event}
 use Rattle.midi_file.specs.declared.event.Event.TheVariants.{Message, Exclusive, Meta}
 use Rattle.midi_file.specs.declared.event.Placed.{Placed}
-use Rattle.midi_file.specs.declared.event.Step.{Step}
-use Rattle.midi_file.specs.declared.event.Step.TheVariants.{Read, Bad}
 use Rattle.midi_file.specs.File.{byte}
 use Rattle.midi_file.specs.Track.{quantity_from, quantity_at, data_count, is_data, message_at, block_from, block_at}
 use Rattle.midi_file.specs.Track.{exclusive_of, meta_of, meta_at, event_at}
 
 -- what is read behind a place, if it is a quantity, ends behind it and inside the track
-abbrev pub QuantityEnds : List ℕ → ℕ → Quantity → Type 0
-QuantityEnds track from (Value n end) = (from < end) × (end ≤ length track)
-QuantityEnds track from NoValue = Unit {0}
+abbrev pub QuantityEnds : List ℕ → ℕ → Option Quantity → Type 0
+QuantityEnds track from (Some q) = (from < q.behind) × (q.behind ≤ length track)
+QuantityEnds track from None = Unit {0}
 
 -- the bytes that an event has at least, and the first data byte of a message
 abbrev pub least_bytes : Event → ℕ
@@ -53,9 +51,9 @@ pub record Stands (track : List ℕ) (from : ℕ) (placed : Placed) : Type 0 whe
   pub small : first_data placed.event < 128
   pub two : DataStand track placed.event placed.end
 
-abbrev pub StepStands : List ℕ → ℕ → Step → Type 0
-StepStands track from (Read placed) = Stands track from placed
-StepStands track from Bad = Unit {0}
+abbrev pub StepStands : List ℕ → ℕ → Option Placed → Type 0
+StepStands track from (Some placed) = Stands track from placed
+StepStands track from None = Unit {0}
 
 -- how many data bytes a message has, and how many bytes an event
 data-count : (status : ℕ) → (1 ≤ data_count status) × (data_count status ≤ 2)
@@ -85,21 +83,22 @@ module _ (track : List ℕ) where
       (λ _. quantity-ends left (128 * value + (byte track at - 128)) from (suc at) (omega arith)))
 
   module _ (from : ℕ) where
-    block-ends : (q : Quantity) → QuantityEnds track from q → QuantityEnds track from (block_from track q)
+    block-ends : (q : Option Quantity) → QuantityEnds track from q → QuantityEnds track from (block_from track q)
     unfolding block_from
-    block-ends (Value n end) e =
-        either (QuantityEnds track from) (leb (end + n) (length track)) (λ h. omega (arith, leb-true (end + n) (length track) h)) (λ _. tt)
-    block-ends NoValue e = tt
+    block-ends (Some q) e =
+        either (QuantityEnds track from) (leb (q.behind + q.value) (length track))
+        (λ h. omega (arith, leb-true (q.behind + q.value) (length track) h)) (λ _. tt)
+    block-ends None e = tt
 
-    exclusive-stands : (q : Quantity) → QuantityEnds track from q → StepStands track from (exclusive_of q)
+    exclusive-stands : (q : Option Quantity) → QuantityEnds track from q → StepStands track from (exclusive_of q)
     unfolding exclusive_of
-    exclusive-stands (Value n end) e = record { behind = omega arith; within = e.1; small = omega arith; two = tt }
-    exclusive-stands NoValue e = tt
+    exclusive-stands (Some q) e = record { behind = omega arith; within = e.1; small = omega arith; two = tt }
+    exclusive-stands None e = tt
 
-    meta-stands : (type : ℕ) (q : Quantity) → QuantityEnds track from q → StepStands track from (meta_of type q)
+    meta-stands : (type : ℕ) (q : Option Quantity) → QuantityEnds track from q → StepStands track from (meta_of type q)
     unfolding meta_of
-    meta-stands type (Value n end) e = record { behind = omega arith; within = e.1; small = omega arith; two = tt }
-    meta-stands type NoValue e = tt
+    meta-stands type (Some q) e = record { behind = omega arith; within = e.1; small = omega arith; two = tt }
+    meta-stands type None e = tt
 
     block-at-ends : (at : ℕ) → from ≤ at → QuantityEnds track from (block_at track at)
     block-at-ends at f = block-ends (quantity_at track at) (quantity-ends 4 0 from at f)
@@ -132,7 +131,7 @@ module _ (track : List ℕ) where
     pub event-stands : (running at : ℕ) → from ≤ at → StepStands track from (event_at track running at)
     unfolding event_at meta_at
     event-stands running at f =
-        let P : Step → Type 0 = StepStands track from in
+        let P : Option Placed → Type 0 = StepStands track from in
         let b : ℕ = byte track at in
         let next : ℕ = suc at in
         either P (leb (length track) at) (λ _. tt)
@@ -148,14 +147,14 @@ module _ (track : List ℕ) where
 -- an event ends behind its place and inside the track, and so does a quantity
 pub event-bounds :
     (track : List ℕ) (running at : ℕ) (placed : Placed)
-    → event_at track running at ≡ Read placed
+    → event_at track running at ≡ Some placed
     → (at < placed.end) × (placed.end ≤ length track)
 event-bounds track running at placed e =
     let q : Stands track at placed = subst (StepStands track at) e (event-stands track at running at (omega arith)) in
     (omega (arith, q.behind, some_bytes placed.event), q.within)
 
 pub quantity-bounds :
-    (track : List ℕ) (left value at n end : ℕ)
-    → quantity_from left value track at ≡ Value n end
-    → (at < end) × (end ≤ length track)
-quantity-bounds track left value at n end e = subst (QuantityEnds track at) e (quantity-ends track left value at at (omega arith))
+    (track : List ℕ) (left value at : ℕ) (q : Quantity)
+    → quantity_from left value track at ≡ Some q
+    → (at < q.behind) × (q.behind ≤ length track)
+quantity-bounds track left value at q e = subst (QuantityEnds track at) e (quantity-ends track left value at at (omega arith))

@@ -1,19 +1,21 @@
--- Numbers of several bytes, bytes compared one by one, and the chunks of a file.
+-- Numbers of several bytes, bytes compared, and the chunks of a file.
 -- Assumes nothing.
 use Prim.Native.Nat.{ℕ, zero, suc, ◌+◌, ◌-◌, ◌*◌, ◌^◌, ◌≤◌, ◌<◌}
-use mathlib.Core.Path.{◌≡◌, refl, sym, ap, subst, ◌∙◌}
-use mathlib.Core.Bool.{Bool, true, false, not, and-false}
+use mathlib.Core.Path.{◌≡◌, refl, ap, subst, ◌∙◌}
+use mathlib.Core.Bool.{true, false, not}
 use mathlib.Core.List.{List, [], ◌∷◌}
 use native.Mathlib.Numerals.{add-one}
 use native.Mathlib.Nat.{pow-suc, pow-le-pow_right}
 use native.Mathlib.Omega.{arith}
-use native.Mathlib.Decide.{dec_le}
 use lib.Dec.{leb, eqb}
-use lib.ListN.{length, get_or, drop, drop_of_length-le}
-use lib.Seq.{drop-cons}
-use borrow.Author.Tests.{eq-eqb, ne_eqb, le-leb, lt-leb, leb-true, eqb-true, not-true, not-false}
+use lib.ListN.{length}
+use borrow.Author.Tests.{eq-eqb, ne_eqb, leb-true, eqb-true, not-false}
+use Rattle.std.proofs.Common.{nat_eq, Result, Ok, Err}
+use Rattle.std.specs.Cmp.Lexicographic.{pointwise}
 use Rattle.lists.proofs.Laws.{and_right}
 use Rattle.lists.proofs.Cases.{each, either}
+use Rattle.refusal.specs.declared.Refusal.{Refusal}
+use Rattle.refusal.specs.declared.Refusal.TheVariants.{NoTrack, Broken}
 use Rattle.midi_file.specs.File.{
   byte,
   number_at,
@@ -28,8 +30,7 @@ use Rattle.midi_file.specs.File.{
   track_from,
   track_of,
 }
-use Rattle.midi_file.specs.declared.chunk.Chunk.{Chunk}
-use Rattle.midi_file.specs.declared.chunk.Chunk.TheVariants.{Track, Missing, Cut}
+use Rattle.midi_file.specs.declared.chunk.Track.{Track}
 
 -- a number of at most three bytes leaves room for one more
 pub three-bytes : (i : ℕ) → i < 4 → 256 ^ i ≤ 16777216
@@ -56,73 +57,17 @@ counted-more file at number i q small =
       small = rw (add-one, pow-suc) (omega (arith, q.small, small));
     }
 
--- lists of other lengths are not the same
-pub same-lengths : (a b : List ℕ) → (length a ≡ length b → ⊥) → same_bytes a b ≡ false
+-- two slices are equal where their bytes are the same
+pub same-pointwise : (a b : List ℕ) → pointwise nat_eq a b ≡ same_bytes a b
 unfolding same_bytes
-same-lengths [] [] ne = absurd (ne refl)
-same-lengths [] (y ∷ b) ne = refl
-same-lengths (x ∷ a) [] ne = refl
-same-lengths (x ∷ a) (y ∷ b) ne = rw (same-lengths a b (λ e. ne (omega (arith, e))), and-false)
+same-pointwise [] [] = refl
+same-pointwise [] (y ∷ b) = refl
+same-pointwise (x ∷ a) [] = refl
+same-pointwise (x ∷ a) (y ∷ b) = rw (same-pointwise a b)
 
--- The bytes before i are the same.
-pub record Alike (a b : List ℕ) (i : ℕ) : Type 0 where
-  pub lengths : length a ≡ length b
-  pub within : i ≤ length a
-  pub same : same_bytes a b ≡ same_bytes (drop i a) (drop i b)
-
-pub alike-none : (a b : List ℕ) → length a ≡ length b → Alike a b 0
-alike-none a b l = record { lengths = l; within = omega arith; same = refl }
-
-module _ (a b : List ℕ) (i : ℕ) (q : Alike a b i) where
-  pub alike_all : length a ≤ i → same_bytes a b ≡ true
-  unfolding same_bytes
-  alike_all l = q.same ∙ rw (drop_of_length-le a l, drop_of_length-le b {i = i} (omega (arith, q.lengths)))
-
-  module _ (l : i < length a) where
-    opened :
-        same_bytes a b
-        ≡ same_bytes (get_or a i 0 ∷ drop (suc i) a) (get_or b i 0 ∷ drop (suc i) b)
-    opened = q.same ∙ rw (drop-cons a i 0 l, drop-cons b i 0 (omega (arith, q.lengths)))
-
-    pub alike-not : (get_or a i 0 ≡ get_or b i 0 → ⊥) → same_bytes a b ≡ false
-    unfolding same_bytes
-    alike-not ne = opened ∙ rw (ne_eqb (get_or a i 0) (get_or b i 0) ne)
-
-    pub alike-more : get_or a i 0 ≡ get_or b i 0 → Alike a b (i + 1)
-    unfolding same_bytes
-    alike-more e =
-        record {
-          lengths = q.lengths;
-          within = omega arith;
-          same = opened ∙ rw (eq-eqb (get_or a i 0) (get_or b i 0) e, add-one);
-        }
-
--- whether a chunk is whole, told by what is left of the file
-pub whole-short : (file : List ℕ) (at : ℕ) → length file < at + 8 → is_whole file at ≡ false
-whole-short file at l = rw (lt-leb (at + 8) (length file) l)
-
-pub whole-left :
-    (file : List ℕ) (at : ℕ)
-    → at + 8 ≤ length file
-    → leb (number_at file (at + 4) 4) (length file - at - 8) ≡ is_whole file at
-whole-left file at l =
-    let n = number_at file (at + 4) 4 in
-    elim (dec_le n (length file - at - 8)) [
-      | yes k ↦ le-leb n (length file - at - 8) k
-          ∙ sym (rw (le-leb (at + 8) (length file) l, le-leb (at + 8 + n) (length file) (omega (arith, k))))
-      | no k ↦ lt-leb n (length file - at - 8) (omega (arith, k))
-          ∙ sym (rw (le-leb (at + 8) (length file) l, lt-leb (at + 8 + n) (length file) (omega (arith, k))))
-    ]
-
+-- where a chunk that is whole ends
 pub whole-bounds : (file : List ℕ) (at : ℕ) → is_whole file at ≡ true → at + 8 + number_at file (at + 4) 4 ≤ length file
 whole-bounds file at e = leb-true (at + 8 + number_at file (at + 4) 4) (length file) (and_right (leb (at + 8) (length file)) _ e)
-
--- what a call's answer tells of the test that it answers
-pub passed : {r test : Bool} → r ≡ test → not r ≡ false → test ≡ true
-passed {r} e n = sym e ∙ not-false r n
-
-pub failed : {r test : Bool} → r ≡ test → not r ≡ true → test ≡ false
-failed {r} e n = sym e ∙ not-true r n
 
 -- The chunks before a place were passed over: the track chunk is the first from there on.
 pub record Passed (file : List ℕ) (at : ℕ) : Type 0 where
@@ -131,7 +76,7 @@ pub record Passed (file : List ℕ) (at : ℕ) : Type 0 where
   pub enough : length file ≤ spare + at
   pub same : track_of file ≡ track_from (suc spare) file at
 
-pub headless : (file : List ℕ) → is_header file ≡ false → track_of file ≡ Missing
+pub headless : (file : List ℕ) → is_header file ≡ false → track_of file ≡ Err NoTrack
 unfolding track_of
 headless file e = rw e
 
@@ -173,7 +118,7 @@ passed_none file e =
     }
 
 module _ (file : List ℕ) (at : ℕ) (q : Passed file at) where
-  pub passed-all : length file ≤ at → track_of file ≡ Missing
+  pub passed-all : length file ≤ at → track_of file ≡ Err NoTrack
   unfolding track_from
   passed-all l = q.same ∙ rw (eq-eqb at (length file) (omega (arith, q.within)))
 
@@ -181,12 +126,12 @@ module _ (file : List ℕ) (at : ℕ) (q : Passed file at) where
     more : eqb at (length file) ≡ false
     more = ne_eqb at (length file) (λ e. omega (arith, e))
 
-    pub passed-cut : is_whole file at ≡ false → track_of file ≡ Cut
+    pub passed-cut : is_whole file at ≡ false → track_of file ≡ Err Broken
     unfolding track_from
     passed-cut e = q.same ∙ rw (more, e)
 
     module _ (e : is_whole file at ≡ true) where
-      pub passed-found : has_letters file at track_letters ≡ true → track_of file ≡ Track (at + 8) (number_at file (at + 4) 4)
+      pub passed-found : has_letters file at track_letters ≡ true → track_of file ≡ Ok (record { start = at + 8; size = number_at file (at + 4) 4 })
       unfolding track_from
       passed-found f = q.same ∙ rw (more, e, f)
 
@@ -203,10 +148,9 @@ module _ (file : List ℕ) (at : ℕ) (q : Passed file at) where
           }
 
 -- A track chunk lies behind a place from which it is looked for, and within the file.
-abbrev ChunkEnds : List ℕ → ℕ → Chunk → Type 0
-ChunkEnds file from (Track start n) = (from + 8 ≤ start) × (start + n ≤ length file)
-ChunkEnds file from Missing = Unit {0}
-ChunkEnds file from Cut = Unit {0}
+abbrev ChunkEnds : List ℕ → ℕ → Result Track Refusal → Type 0
+ChunkEnds file from (Ok track) = (from + 8 ≤ track.start) × (track.start + track.size ≤ length file)
+ChunkEnds file from (Err refusal) = Unit {0}
 
 module _ (file : List ℕ) where
   chunk-ends : (fuel from at : ℕ) → from ≤ at → ChunkEnds file from (track_from fuel file at)
@@ -219,13 +163,16 @@ module _ (file : List ℕ) where
       (λ _. (omega arith, whole-bounds file at (not-false (is_whole file at) n)))
       (λ _. chunk-ends fuel from (chunk_end file at) (omega arith))))
 
-  pub track-place : (fuel at start n : ℕ) → track_from fuel file at ≡ Track start n → (at + 8 ≤ start) × (start + n ≤ length file)
-  track-place fuel at start n e = subst (ChunkEnds file at) e (chunk-ends fuel at at (omega arith))
+  pub track-place :
+      (fuel at : ℕ) (track : Track)
+      → track_from fuel file at ≡ Ok track
+      → (at + 8 ≤ track.start) × (track.start + track.size ≤ length file)
+  track-place fuel at track e = subst (ChunkEnds file at) e (chunk-ends fuel at at (omega arith))
 
-  pub track-within : (start n : ℕ) → track_of file ≡ Track start n → start + n ≤ length file
+  pub track-within : (track : Track) → track_of file ≡ Ok track → track.start + track.size ≤ length file
   unfolding track_of
-  track-within start n e =
-      let q : ChunkEnds file 0 (Track start n) =
+  track-within track e =
+      let q : ChunkEnds file 0 (Ok track) =
       subst (ChunkEnds file 0) e
       (either (ChunkEnds file 0) (is_header file) (λ _. chunk-ends (suc (length file)) 0 (chunk_end file 0) (omega arith)) (λ _. tt))
       in

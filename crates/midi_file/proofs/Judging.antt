@@ -1,13 +1,17 @@
 -- A track that is judged and counted first, and written then.
 -- Assumes nothing.
-use Prim.Native.Nat.{ℕ, ◌≤◌, ◌<◌}
+use Prim.Native.Nat.{ℕ, ◌≤◌}
 use mathlib.Core.Path.{◌≡◌, refl, ◌∙◌}
 use mathlib.Core.List.{List, [], ◌++◌}
 use native.Mathlib.Omega.{arith}
 use lib.ListN.{length, take, drop, length-append}
 use lib.Seq.{take_all, take-append_seam, drop-nil}
-use borrow.Author.Tests.{lt-ltb, le-ltb, eq-eqb, ne_eqb}
-use Rattle.midi_file.specs.declared.chunk.Chunk.TheVariants.{Track, Missing, Cut}
+use borrow.Author.Tests.{le-ltb, eq-eqb, ne_eqb}
+use Rattle.std.proofs.Common.{Result, Ok, Err, IfOk}
+use Rattle.refusal.specs.declared.Refusal.{Refusal}
+use Rattle.refusal.specs.Number.{refusal_number, number}
+use Rattle.refusal.proofs.Distinct.{refused-some}
+use Rattle.midi_file.specs.declared.chunk.Track.{Track}
 use Rattle.midi_file.specs.File.{part, track_of}
 use Rattle.midi_file.specs.Strokes.{Rule}
 use Rattle.midi_file.specs.Calls.{
@@ -24,35 +28,34 @@ use Rattle.midi_file.specs.Calls.{
   read_buffer,
 }
 
--- what a verdict's number, a count and a buffer are, once it is judged
-abbrev pub Judged : ℕ → List ℕ → List ℕ → ℕ → ℕ → List ℕ → Type 0
-Judged refusal strokes entry n count out =
-    (n ≡ judged_refusal refusal strokes entry)
-    × ((count ≡ judged_count refusal strokes entry) × (out ≡ judged_buffer refusal strokes entry))
+-- what a call's result and a buffer are, once it is judged
+abbrev pub Judged : ℕ → List ℕ → List ℕ → Result ℕ Refusal → List ℕ → Type 0
+Judged refusal strokes entry r out =
+    (number r ≡ judged_refusal refusal strokes entry)
+    × IfOk r (λ n. n ≡ judged_count refusal strokes entry)
+    × (out ≡ judged_buffer refusal strokes entry)
 
 module _ (refusal : ℕ) (strokes entry : List ℕ) where
-  pub judged-refused : (n : ℕ) → n ≡ refusal → (n ≡ 0 → ⊥) → Judged refusal strokes entry n 0 entry
-  judged-refused n e some =
+  pub judged-refused : (r : Refusal) → refusal_number r ≡ refusal → Judged refusal strokes entry (Err r) entry
+  judged-refused r e =
+      let some : refusal_number r ≡ 0 → ⊥ = refused-some {A = ℕ} {v = Err r} refl in
       let not : refusal ≡ 0 → ⊥ = λ z. some (e ∙ z) in
-      let left : n ≡ judged_refusal refusal strokes entry = rw (ne_eqb refusal 0 not) e in
+      let left : refusal_number r ≡ judged_refusal refusal strokes entry = rw (ne_eqb refusal 0 not) e in
       let still : judged_refusal refusal strokes entry ≡ 0 → ⊥ = λ z. some (left ∙ z) in
-      (left, (rw (ne_eqb (judged_refusal refusal strokes entry) 0 still), rw (ne_eqb (judged_refusal refusal strokes entry) 0 still)))
-
-  pub judged-short : refusal ≡ 0 → length entry < length strokes → Judged refusal strokes entry 7 0 entry
-  judged-short z l = rw (z, lt-ltb (length entry) (length strokes) l) (refl, (refl, refl))
+      (left, tt, rw (ne_eqb (judged_refusal refusal strokes entry) 0 still))
 
   pub judged-written :
-      (n count : ℕ) (out : List ℕ)
+      (r : Result ℕ Refusal) (out : List ℕ)
       → refusal ≡ 0
       → length strokes ≤ length entry
-      → n ≡ refusal
-      → count ≡ length strokes
+      → number r ≡ refusal
+      → IfOk r (λ n. n ≡ length strokes)
       → out ≡ filled strokes entry
-      → Judged refusal strokes entry n count out
+      → Judged refusal strokes entry r out
   unfolding filled
-  judged-written n count out z l e c w =
+  judged-written r out z l e c w =
       rw (z, le-ltb (length entry) (length strokes) l)
-      (e ∙ z, (c, w ∙ rw (take_all (length entry) strokes l)))
+      (e ∙ z, c, w ∙ rw (take_all (length entry) strokes l))
 
 -- a part with no bytes was lent
 pub lent_none : (strokes entry part : List ℕ) → part ≡ filled strokes [] → part ++ entry ≡ entry
@@ -61,26 +64,24 @@ lent_none strokes entry part e = rw (e, drop-nil {A = ℕ} (length strokes))
 
 -- What a file is judged as, told by its track chunk.
 module _ (rule : Rule) (file entry : List ℕ) where
-  abbrev pub Reads : ℕ → ℕ → List ℕ → Type 0
-  Reads n count out =
-      (n ≡ read_refusal rule file entry) × ((count ≡ read_count rule file entry) × (out ≡ read_buffer rule file entry))
+  abbrev pub Reads : Result ℕ Refusal → List ℕ → Type 0
+  Reads r out =
+      (number r ≡ read_refusal rule file entry)
+      × IfOk r (λ n. n ≡ read_count rule file entry)
+      × (out ≡ read_buffer rule file entry)
 
-  pub read-missing : track_of file ≡ Missing → Reads 15 0 entry
+  pub read_refused : (refusal : Refusal) → track_of file ≡ Err refusal → Reads (Err refusal) entry
   unfolding file_refusal read_refusal read_count read_buffer
-  read-missing e = judged-refused (file_refusal rule file) (file_strokes rule file) entry 15 (rw (file_refusal, e)) (λ z. omega arith)
-
-  pub read-cut : track_of file ≡ Cut → Reads 16 0 entry
-  unfolding file_refusal read_refusal read_count read_buffer
-  read-cut e = judged-refused (file_refusal rule file) (file_strokes rule file) entry 16 (rw (file_refusal, e)) (λ z. omega arith)
+  read_refused refusal e = judged-refused (file_refusal rule file) (file_strokes rule file) entry refusal (rw (file_refusal, e))
 
   pub read_whole :
-      (start n : ℕ)
-      → track_of file ≡ Track start n
-      → (k count : ℕ) (out : List ℕ)
-      → Judged (track_refusal rule (part file start n)) (track_strokes rule (part file start n)) entry k count out
-      → Reads k count out
+      (track : Track)
+      → track_of file ≡ Ok track
+      → (r : Result ℕ Refusal) (out : List ℕ)
+      → (let inside = part file track.start track.size in Judged (track_refusal rule inside) (track_strokes rule inside) entry r out)
+      → Reads r out
   unfolding file_refusal file_strokes read_refusal read_count read_buffer
-  read_whole start n e k count out q = rw (file_refusal, file_strokes, e) q
+  read_whole track e r out q = rw (file_refusal, file_strokes, e) q
 
   -- what an accepted reading leaves: the strokes stand at the buffer's front
   pub accepted-stands :

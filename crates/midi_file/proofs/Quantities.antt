@@ -8,7 +8,7 @@ use native.Mathlib.Numerals.{add-one}
 use native.Mathlib.Omega.{arith}
 use lib.ListN.{length}
 use borrow.Author.Tests.{lt-ltb, le-ltb, le-leb, lt-leb}
-use Rattle.midi_file.specs.declared.event.Quantity.TheVariants.{Value, NoValue}
+use Rattle.std.proofs.Common.{Some, None}
 use Rattle.midi_file.specs.File.{byte}
 use Rattle.midi_file.specs.Track.{quantity_from, quantity_at}
 
@@ -23,7 +23,7 @@ passed_none track from = record { few = omega arith; small = omega arith; same =
 
 -- the next byte, where there is one, is the last or not
 module _ (track : List ℕ) (value at : ℕ) where
-  no_byte : (left : ℕ) → length track ≤ at → quantity_from left value track at ≡ NoValue
+  no_byte : (left : ℕ) → length track ≤ at → quantity_from left value track at ≡ None
   unfolding quantity_from
   no_byte zero l = refl
   no_byte (suc left) l = rw (le-leb (length track) at l)
@@ -33,7 +33,7 @@ module _ (track : List ℕ) (value at : ℕ) where
         (left : ℕ)
         → 0 < left
         → byte track at < 128
-        → quantity_from left value track at ≡ Value (128 * value + byte track at) (at + 1)
+        → quantity_from left value track at ≡ Some (record { value = 128 * value + byte track at; behind = at + 1 })
     unfolding quantity_from
     last_byte zero m b = absurd (omega arith)
     last_byte (suc left) m b = rw (lt-leb (length track) at l, lt-ltb (byte track at) 128 b, add-one)
@@ -50,12 +50,16 @@ module _ (track : List ℕ) (value at : ℕ) where
         rw (lt-leb (length track) at l, le-ltb (byte track at) 128 b, add-one, e)
 
 module _ (track : List ℕ) (from value at left : ℕ) (q : Passed track from value at left) where
-  pub passed-out : left ≤ 0 → NoValue ≡ quantity_at track from
+  pub passed-out : left ≤ 0 → None ≡ quantity_at track from
   unfolding quantity_from
   passed-out m = let e : left ≡ 0 = omega arith in sym (rw e at q.same)
 
-  pub passed-cut : length track ≤ at → NoValue ≡ quantity_at track from
+  pub passed-cut : length track ≤ at → None ≡ quantity_at track from
   passed-cut l = sym (q.same ∙ no_byte track value at left l)
+
+  -- the same, with other words for the place and for how many may follow
+  pub passed-moved : (place some : ℕ) → at ≡ place → left ≡ some → Passed track from value place some
+  passed-moved place some a l = rw (← a, ← l) q
 
   module _ (m : 0 < left) where
     pub passed-room : 128 * value + 255 < 2 ^ 64
@@ -63,7 +67,7 @@ module _ (track : List ℕ) (from value at left : ℕ) (q : Passed track from va
         omega (arith, q.small, pow-le-pow_right {n = 128} (omega arith) {i = 4 - left} {j = 3} (omega arith))
 
     module _ (l : at < length track) where
-      pub passed-last : byte track at < 128 → Value (128 * value + byte track at) (at + 1) ≡ quantity_at track from
+      pub passed-last : byte track at < 128 → Some (record { value = 128 * value + byte track at; behind = at + 1 }) ≡ quantity_at track from
       passed-last b = sym (q.same ∙ last_byte track value at l left m b)
 
       pub passed-more :

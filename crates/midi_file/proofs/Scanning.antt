@@ -9,12 +9,12 @@ use native.Mathlib.Numerals.{add-one}
 use lib.Dec.{eqb}
 use lib.ListN.{length, take, drop, set, length-append, length-take, length-drop, drop_of_length-le}
 use lib.Seq.{take-nil, take_all, take-append-le, drop-cons, set-append_seam, append_snoc}
+use Rattle.std.proofs.Common.{Some, None}
 use Rattle.lists.proofs.Cases.{by-test}
 use Rattle.midi_file.proofs.Bounds.{event-bounds}
 use Rattle.midi_file.specs.declared.event.Placed.{Placed}
-use Rattle.midi_file.specs.declared.event.Step.TheVariants.{Read, Bad}
 use Rattle.midi_file.specs.declared.note.Note.TheVariants.{Outside, Silent, Struck}
-use Rattle.midi_file.specs.declared.event.Quantity.TheVariants.{Value, NoValue}
+use Rattle.midi_file.specs.declared.event.Quantity.{Quantity}
 use Rattle.midi_file.specs.Track.{
   quantity_at,
   event_at,
@@ -85,7 +85,7 @@ onward spare track placed = cond (is_end placed.event) (ending track placed) (be
 
 pub one_more :
     (spare : ℕ) (track : List ℕ) (placed : Placed)
-    → followed track (behind spare track) (Read placed) ≡ joined placed (onward spare track placed)
+    → followed track (behind spare track) (Some placed) ≡ joined placed (onward spare track placed)
 unfolding followed
 one_more spare track placed = by-test (is_end placed.event) (λ e. rw e) (λ e. rw e)
 
@@ -215,38 +215,38 @@ head-none rule track entry =
 
 module _ (rule : Rule) (track entry out : List ℕ) (running at count : ℕ) where
   module _ (q : Head rule track entry out running at count) where
-    pub head-broken : NoValue ≡ quantity_at track at → Done rule track entry out count 16
+    pub head-broken : None ≡ quantity_at track at → Done rule track entry out count 16
     unfolding events_from followed behind_time strokes_of any_outside
     head-broken e =
         stopped rule track entry out at count broken
         (restated rule track entry out at count _ q.going broken (rw (← e))) 16 refl refl
 
     pub head-here :
-        (value next : ℕ)
-        → Value value next ≡ quantity_at track at
-        → at ≤ next
-        → next ≤ length track
-        → Here rule track entry out running next count
+        (time : Quantity)
+        → Some time ≡ quantity_at track at
+        → at ≤ time.behind
+        → time.behind ≤ length track
+        → Here rule track entry out running time.behind count
     unfolding events_from behind_time
-    head-here value next e forward inside =
+    head-here time e forward inside =
         record {
           spare = q.spare;
           within = inside;
           enough = omega (arith, q.enough);
           going =
               further rule track entry out at count _
-              (restated rule track entry out at count _ q.going (coming q.spare track running next) (rw (← e)))
-              next forward;
+              (restated rule track entry out at count _ q.going (coming q.spare track running time.behind) (rw (← e)))
+              time.behind forward;
         }
 
   module _ (q : Here rule track entry out running at count) where
-    pub here-broken : event_at track running at ≡ Bad → Done rule track entry out count 16
+    pub here-broken : event_at track running at ≡ None → Done rule track entry out count 16
     unfolding followed strokes_of any_outside
     here-broken e =
         stopped rule track entry out at count broken
         (restated rule track entry out at count _ q.going broken (rw e)) 16 refl refl
 
-    module _ (placed : Placed) (e : event_at track running at ≡ Read placed) where
+    module _ (placed : Placed) (e : event_at track running at ≡ Some placed) where
       pub here-read : Going rule track entry out at count (joined placed (onward q.spare track placed))
       here-read =
           restated rule track entry out at count _ q.going (joined placed (onward q.spare track placed))
@@ -299,10 +299,3 @@ module _ (rule : Rule) (track entry out : List ℕ) (placed : Placed) (count : �
             (events_from (suc (q.spare - 1)) track (running_behind placed.event) placed.end)
             (rw e (ap (λ n. events_from n track (running_behind placed.event) placed.end) s));
       }
-
--- a buffer keeps its length
-pub done-length :
-    (rule : Rule) (track entry : List ℕ) {out : List ℕ} {count n : ℕ}
-    → Done rule track entry out count n
-    → length out ≡ length entry
-done-length rule track entry d = ap length d.1.1 ∙ length-filled (track_strokes rule track) entry

@@ -1,7 +1,7 @@
 -- The call that reads a file under a rule at Note Ons: the number of its refusal, 0 where it is accepted, how many strokes it writes, and the
 -- buffer as it leaves it (document 02, A.2).
-use Rattle.std.specs.Prelude.{ℕ, cond, List, [], ◌++◌, eqb, ltb, length, take, drop}
-use Rattle.midi_file.specs.declared.chunk.Chunk.TheVariants.{Track, Missing, Cut}
+use Rattle.std.specs.Prelude.{ℕ, Ok, Err, cond, List, [], ◌++◌, eqb, ltb, length, take, drop}
+use Rattle.refusal.specs.Number.{refusal_number}
 use Rattle.midi_file.specs.File.{part, track_of}
 use Rattle.midi_file.specs.Track.{events_of}
 use Rattle.midi_file.specs.Strokes.{Rule, strokes_of, events_refusal}
@@ -18,17 +18,15 @@ track_refusal rule track = events_refusal rule (events_of track)
 unfoldable pub file_strokes : Rule → List ℕ → List ℕ
 file_strokes rule file =
     elim (track_of file) [
-      | Missing ↦ []
-      | Cut ↦ []
-      | Track start n ↦ track_strokes rule (part file start n)
+      | Err refusal ↦ []
+      | Ok track ↦ track_strokes rule (part file track.start track.size)
     ]
 
 unfoldable pub file_refusal : Rule → List ℕ → ℕ
 file_refusal rule file =
     elim (track_of file) [
-      | Missing ↦ 15
-      | Cut ↦ 16
-      | Track start n ↦ track_refusal rule (part file start n)
+      | Err refusal ↦ refusal_number refusal
+      | Ok track ↦ track_refusal rule (part file track.start track.size)
     ]
 
 -- "And 7 only after the whole file reads well."

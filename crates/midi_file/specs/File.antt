@@ -1,7 +1,8 @@
 -- A Standard MIDI File (document 02, A.2) as its chunks: the header chunk, and the first track chunk behind it.
-use Rattle.std.specs.Prelude.{ℕ, zero, suc, ◌+◌, ◌*◌, Bool, true, false, cond, not, ◌&&◌, List, [], ◌∷◌, eqb, leb, length, get_or, take, drop}
-use Rattle.midi_file.specs.declared.chunk.Chunk.{Chunk}
-use Rattle.midi_file.specs.declared.chunk.Chunk.TheVariants.{Track, Missing, Cut}
+use Rattle.std.specs.Prelude.{ℕ, zero, suc, Result, Ok, Err, ◌+◌, ◌*◌, Bool, true, false, cond, not, ◌&&◌, List, [], ◌∷◌, eqb, leb, length, get_or, take, drop}
+use Rattle.refusal.specs.declared.Refusal.{Refusal}
+use Rattle.refusal.specs.declared.Refusal.TheVariants.{NoTrack, Broken}
+use Rattle.midi_file.specs.declared.chunk.Track.{Track}
 
 -- the byte at a place
 abbrev pub byte : List ℕ → ℕ → ℕ
@@ -59,14 +60,14 @@ is_header file =
 -- The first track chunk among those that stand from a place on: where its inside begins, and its length. "A file that ends at a chunk's
 -- end with no MTrk" misses it; a chunk that is cut short comes before its inside; chunks of other types are passed over. Each chunk has
 -- eight bytes at least, so a file has more fuel than chunks.
-unfoldable pub track_from : ℕ → List ℕ → ℕ → Chunk
-track_from zero file at = Missing
+unfoldable pub track_from : ℕ → List ℕ → ℕ → Result Track Refusal
+track_from zero file at = Err NoTrack
 track_from (suc fuel) file at =
-    cond (eqb at (length file)) Missing
-    (cond (not (is_whole file at)) Cut
-    (cond (has_letters file at track_letters) (Track (inside at) (chunk_length file at))
+    cond (eqb at (length file)) (Err NoTrack)
+    (cond (not (is_whole file at)) (Err Broken)
+    (cond (has_letters file at track_letters) (Ok (record { start = inside at; size = chunk_length file at }))
     (track_from fuel file (chunk_end file at))))
 
 -- The file's track chunk: the first behind the header.
-unfoldable pub track_of : List ℕ → Chunk
-track_of file = cond (is_header file) (track_from (suc (length file)) file (chunk_end file 0)) Missing
+unfoldable pub track_of : List ℕ → Result Track Refusal
+track_of file = cond (is_header file) (track_from (suc (length file)) file (chunk_end file 0)) (Err NoTrack)

@@ -1,13 +1,14 @@
 // The chunks of a file: its header, and its track.
 ghost use Rattle.std.specs.Prelude.{◌≡◌, ◌+◌, ◌≤◌, length};
-ghost use Rattle.midi_file.specs.File.{number_at, same_bytes, is_whole, is_header, track_of};
+ghost use Rattle.midi_file.specs.File.{number_at, has_letters, is_whole, is_header, track_of};
 
-// The first track chunk of a file: where its inside begins, and its length. There may be none, or a chunk that is cut short before it.
+use refusal::Refusal;
+
+// The first track chunk of a file: where its inside begins, and how many bytes that has.
 #[derive(Clone, Copy)]
-pub enum Chunk {
-    Track(usize, usize),
-    Missing,
-    Cut,
+pub struct Track {
+    pub start: usize,
+    pub size: usize,
 }
 
 // A chunk begins with four letters and the length of its inside, in four bytes.
@@ -28,29 +29,10 @@ fn number_at(file: &[u8], at: usize, n: usize) -> usize
     ensures { result ≡ number_at file.now at n }
 {
     let mut number: usize = 0;
-    let mut i: usize = 0;
-    while i < n {
-        number = 256 * number + (file[at + i] as usize);
-        i = i + 1;
+    for i in 0..n {
+        number = 256 * number + file[at + i] as usize;
     }
     number
-}
-
-// Whether two slices hold the same bytes.
-fn same(a: &[u8], b: &[u8]) -> bool
-    ensures { result ≡ same_bytes a.now b.now }
-{
-    if a.len() != b.len() {
-        return false;
-    }
-    let mut i: usize = 0;
-    while i < a.len() {
-        if a[i] != b[i] {
-            return false;
-        }
-        i = i + 1;
-    }
-    true
 }
 
 // Whether the chunk at a place is all there, with its eight leading bytes.
@@ -58,50 +40,47 @@ fn is_whole(file: &[u8], at: usize) -> bool
     requires { at ≤ length file.now }
     ensures { result ≡ is_whole file.now at }
 {
-    if file.len() - at < LEADING {
-        return false;
-    }
-    number_at(file, at + LETTERS, 4) <= file.len() - at - LEADING
+    LEADING <= file.len() - at && number_at(file, at + LETTERS, 4) <= file.len() - at - LEADING
+}
+
+// Whether the chunk at a place begins with these letters.
+fn has_letters(file: &[u8], at: usize, letters: &[u8; LETTERS]) -> bool
+    requires { at + 4 ≤ length file.now }
+    ensures { result ≡ has_letters file.now at letters.now }
+{
+    &file[at..at + LETTERS] == letters.as_slice()
 }
 
 // Whether the file begins with a complete header, of format 0 and one track.
 fn is_header(file: &[u8]) -> bool
     ensures { result ≡ is_header file.now }
 {
-    if !is_whole(file, 0) {
-        return false;
-    }
-    if !same(&file[..LETTERS], b"MThd") {
-        return false;
-    }
-    if number_at(file, LETTERS, 4) < LEAST_HEADER {
-        return false;
-    }
-    if number_at(file, FORMAT, 2) != 0 {
-        return false;
-    }
-    number_at(file, TRACKS, 2) == 1
+    is_whole(file, 0)
+        && has_letters(file, 0, b"MThd")
+        && LEAST_HEADER <= number_at(file, LETTERS, 4)
+        && number_at(file, FORMAT, 2) == 0
+        && number_at(file, TRACKS, 2) == 1
 }
 
-// The file's track chunk: the first behind the header. Chunks of other types are passed over.
-pub(crate) fn track_of(file: &[u8]) -> Chunk
+// The file's track chunk: the first behind the header. Chunks of other types are passed over. There may be no header or no track, or a chunk
+// that is cut short before the track.
+pub(crate) fn track_of(file: &[u8]) -> Result<Track, Refusal>
     ensures { result ≡ track_of file.now }
 {
     if !is_header(file) {
-        return Chunk::Missing;
+        return Err(Refusal::NoTrack);
     }
     let mut at = LEADING + number_at(file, LETTERS, 4);
     while at < file.len() {
         if !is_whole(file, at) {
-            return Chunk::Cut;
+            return Err(Refusal::Broken);
         }
-        let letters = at + LETTERS;
         let start = at + LEADING;
-        let length = number_at(file, letters, 4);
-        if same(&file[at..letters], b"MTrk") {
-            return Chunk::Track(start, length);
+        let size = number_at(file, at + LETTERS, 4);
+        if has_letters(file, at, b"MTrk") {
+            return Ok(Track { start, size });
         }
-        at = start + length;
+        at = start + size;
     }
-    Chunk::Missing
+    Err(Refusal::NoTrack)
 }

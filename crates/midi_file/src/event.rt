@@ -1,5 +1,6 @@
 // The events of a track, and their quantities.
-ghost use Rattle.std.specs.Prelude.{◌≡◌, eqb};
+ghost use Rattle.std.specs.Prelude.{◌≡◌, Some, None, cond, eqb};
+ghost use Rattle.midi_file.specs.File.{byte};
 ghost use Rattle.midi_file.specs.Track.{
   data_count,
   is_data,
@@ -14,11 +15,11 @@ ghost use Rattle.midi_file.specs.Track.{
   is_bare,
 };
 
-// A quantity: its value, and the place behind it. There is none where it is cut short or has more than four bytes.
+// A quantity: its value, and the place behind it.
 #[derive(Clone, Copy)]
-pub enum Quantity {
-    Value(usize, usize),
-    NoValue,
+pub struct Quantity {
+    pub value: usize,
+    pub behind: usize,
 }
 
 // An event: a channel message with its status and its data bytes, an exclusive event, or a meta event with its type and its length.
@@ -36,63 +37,54 @@ pub struct Placed {
     pub end: usize,
 }
 
-// What stands at a place of a track: an event, or nothing that reads well.
-#[derive(Clone, Copy)]
-pub enum Step {
-    Read(Placed),
-    Bad,
-}
-
 // The most bytes of a quantity.
 pub(crate) const MOST_QUANTITY: usize = 4;
 
 // The meta event that ends a track.
 const END_OF_TRACK: u8 = 47;
 
-// The quantity at a place: seven bits in each byte, the most significant first.
-fn quantity_at(track: &[u8], from: usize) -> Quantity
+// The quantity at a place: seven bits in each byte, the most significant first. There is none where it is cut short or has more than four bytes.
+fn quantity_at(track: &[u8], from: usize) -> Option<Quantity>
     ensures { result ≡ quantity_at track.now from }
 {
     let mut value: usize = 0;
-    let mut at = from;
-    let mut left = MOST_QUANTITY;
-    while 0 < left {
-        if track.len() <= at {
-            return Quantity::NoValue;
-        }
-        let byte = track[at];
-        at = at + 1;
+    for i in 0..MOST_QUANTITY {
+        let &byte = track.get(from + i)?;
         if byte < 128 {
-            return Quantity::Value(128 * value + (byte as usize), at);
+            return Some(Quantity {
+                value: 128 * value + byte as usize,
+                behind: from + i + 1,
+            });
         }
-        value = 128 * value + ((byte - 128) as usize);
-        left = left - 1;
+        value = 128 * value + (byte - 128) as usize;
     }
-    Quantity::NoValue
+    None
 }
 
 // A quantity and so many bytes behind it: how many, and the place behind them.
-fn block_at(track: &[u8], at: usize) -> Quantity
+#[tactic(auto, unfolding(crate::specs::Track::block_from))]
+fn block_at(track: &[u8], at: usize) -> Option<Quantity>
     ensures { result ≡ block_at track.now at }
 {
-    let quantity = quantity_at(track, at);
-    let Quantity::Value(length, behind) = quantity else {
-        return Quantity::NoValue;
-    };
-    if track.len() - behind < length {
-        return Quantity::NoValue;
+    let Quantity { value, behind } = quantity_at(track, at)?;
+    if track.len() - behind < value {
+        return None;
     }
-    Quantity::Value(length, behind + length)
+    Some(Quantity {
+        value,
+        behind: behind + value,
+    })
 }
 
-// Whether a data byte of a channel message stands at a place.
-fn is_data(track: &[u8], at: usize) -> bool
-    ensures { result ≡ is_data track.now at }
+// The data byte of a channel message at a place, if one stands there.
+fn data_at(track: &[u8], at: usize) -> Option<u8>
+    ensures { result ≡ cond (is_data track.now at) (Some (byte track.now at)) None }
 {
-    if track.len() <= at {
-        return false;
+    if at < track.len() && track[at] < 128 {
+        Some(track[at])
+    } else {
+        None
     }
-    track[at] < 128
 }
 
 // Whether channel messages of a status have one data byte, and not two.
@@ -103,73 +95,62 @@ fn has_one_data_byte(status: u8) -> bool
 }
 
 // The channel message of a status, its data bytes from a place on.
-fn message_at(track: &[u8], status: u8, at: usize) -> Step
+#[tactic(auto, unfolding(crate::specs::Track::message_at))]
+fn message_at(track: &[u8], status: u8, at: usize) -> Option<Placed>
     ensures { result ≡ message_at track.now status at }
 {
-    if !is_data(track, at) {
-        return Step::Bad;
-    }
-    let first = track[at];
-    let next = at + 1;
+    let first = data_at(track, at)?;
     if has_one_data_byte(status) {
-        let event = Event::Message(status, first, 0);
-        return Step::Read(Placed { event, end: next });
+        return Some(Placed {
+            event: Event::Message(status, first, 0),
+            end: at + 1,
+        });
     }
-    if !is_data(track, next) {
-        return Step::Bad;
-    }
-    let second = track[next];
-    let event = Event::Message(status, first, second);
-    Step::Read(Placed { event, end: at + 2 })
+    let second = data_at(track, at + 1)?;
+    Some(Placed {
+        event: Event::Message(status, first, second),
+        end: at + 2,
+    })
 }
 
 // An exclusive event behind its status: a quantity, and so many bytes.
-fn exclusive_at(track: &[u8], at: usize) -> Step
+#[tactic(auto, unfolding(crate::specs::Track::exclusive_of))]
+fn exclusive_at(track: &[u8], at: usize) -> Option<Placed>
     ensures { result ≡ exclusive_at track.now at }
 {
-    let block = block_at(track, at);
-    let Quantity::Value(_, end) = block else {
-        return Step::Bad;
-    };
-    let event = Event::Exclusive;
-    Step::Read(Placed { event, end })
+    let block = block_at(track, at)?;
+    Some(Placed {
+        event: Event::Exclusive,
+        end: block.behind,
+    })
 }
 
 // A meta event behind its status: a type, a quantity, and so many bytes.
-fn meta_at(track: &[u8], at: usize) -> Step
+#[tactic(auto, unfolding(crate::specs::Track::meta_at, crate::specs::Track::meta_of))]
+fn meta_at(track: &[u8], at: usize) -> Option<Placed>
     ensures { result ≡ meta_at track.now at }
 {
-    if track.len() <= at {
-        return Step::Bad;
-    }
-    let kind = track[at];
-    let block = block_at(track, at + 1);
-    let Quantity::Value(length, end) = block else {
-        return Step::Bad;
-    };
-    let event = Event::Meta(kind, length);
-    Step::Read(Placed { event, end })
+    let &kind = track.get(at)?;
+    let block = block_at(track, at + 1)?;
+    Some(Placed {
+        event: Event::Meta(kind, block.value),
+        end: block.behind,
+    })
 }
 
 // The event at a place, with a running status, or 0 where there is none.
-pub(crate) fn event_at(track: &[u8], running: u8, at: usize) -> Step
+#[tactic(auto, unfolding(crate::specs::Track::event_at))]
+pub(crate) fn event_at(track: &[u8], running: u8, at: usize) -> Option<Placed>
     ensures { result ≡ event_at track.now running at }
 {
-    if track.len() <= at {
-        return Step::Bad;
-    }
-    let byte = track[at];
+    let &byte = track.get(at)?;
     match byte {
-        0..=127 => {
-            if running == 0 {
-                return Step::Bad;
-            }
-            message_at(track, running, at)
-        }
+        0..=127 if running == 0 => None,
+        0..=127 => message_at(track, running, at),
         128..=239 => message_at(track, byte, at + 1),
         240 | 247 => exclusive_at(track, at + 1),
         255 => meta_at(track, at + 1),
-        _ => Step::Bad,
+        _ => None,
     }
 }
 
@@ -180,8 +161,7 @@ impl Event {
     {
         match self {
             Event::Message(status, _, _) => status,
-            Event::Exclusive => 0,
-            Event::Meta(_, _) => 0,
+            Event::Exclusive | Event::Meta(_, _) => 0,
         }
     }
 
@@ -189,21 +169,13 @@ impl Event {
     pub(crate) fn is_end(self) -> bool
         ensures { result ≡ is_end self }
     {
-        match self {
-            Event::Message(_, _, _) => false,
-            Event::Exclusive => false,
-            Event::Meta(kind, _) => kind == END_OF_TRACK,
-        }
+        matches!(self, Event::Meta(END_OF_TRACK, _))
     }
 
     // Whether it is a meta event of length 0.
     pub(crate) fn is_bare(self) -> bool
         ensures { result ≡ is_bare self }
     {
-        match self {
-            Event::Message(_, _, _) => false,
-            Event::Exclusive => false,
-            Event::Meta(_, length) => length == 0,
-        }
+        matches!(self, Event::Meta(_, 0))
     }
 }

@@ -14,6 +14,7 @@ pub enum Note {
 }
 
 // The rule at a Note On.
+#[tactic(auto, unfolding(crate::specs::Strokes::note_on))]
 fn note_on(bells: Bells, key: u8, velocity: u8) -> Note
     ensures { result ≡ note_on bells key velocity }
 {

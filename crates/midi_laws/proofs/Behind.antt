@@ -8,12 +8,11 @@ use native.Mathlib.Nat.{zero-add, suc-add}
 use native.Mathlib.Omega.{arith}
 use lib.ListN.{length, take, drop, length-take}
 use lib.Seq.{take-nil, take-take, get_or-take}
-use Rattle.midi_file.specs.declared.chunk.Chunk.TheVariants.{Track}
 use Rattle.midi_file.specs.File.{byte, part, number_at, same_bytes, header_letters, track_letters, chunk_length, chunk_end, track_from, track_of}
 use Rattle.midi_file.specs.Strokes.{Rule}
 use Rattle.midi_file.specs.Calls.{file_strokes, file_refusal}
 use Rattle.midi_file.proofs.Chunks.{Header, track-place, track-within}
-use Rattle.midi_laws.proofs.Chunks.{track-behind, by-header, no_fuel, at-track, past-chunk, by-chunk}
+use Rattle.midi_laws.proofs.Chunks.{track_at, track-behind, by-header, no_fuel, at-track, past-chunk, by-chunk}
 
 -- A part of a list lies in the list up to its end.
 part-within : (at n : ℕ) (l : List ℕ) → part l at n ≡ drop at (take (at + n) l)
@@ -42,17 +41,17 @@ module _ (file other : List ℕ) (start n : ℕ) (same : take (start + n) other 
   chunk-same at h = number_same file other (start + n) same (at + 4) 4 (omega arith)
 
   track-same :
-      (fuel more at : ℕ) → length other < at + more → track_from fuel file at ≡ Track start n → track_from more other at ≡ Track start n
+      (fuel more at : ℕ) → length other < at + more → track_from fuel file at ≡ track_at start n → track_from more other at ≡ track_at start n
   track-same zero more at h e = no_fuel file at start n e
-  track-same (suc fuel) zero at h e = let q = track-place file (suc fuel) at start n e in absurd (omega arith)
+  track-same (suc fuel) zero at h e = let q = track-place file (suc fuel) at _ e in absurd (omega arith)
   track-same (suc fuel) (suc more) at h e =
-      let q = track-place file (suc fuel) at start n e in
+      let q = track-place file (suc fuel) at _ e in
       let sized = chunk-same at (omega arith) in
       let typed = ap (λ (l : List ℕ). same_bytes l track_letters) (part_same file other (start + n) same at 4 (omega arith)) in
       by-chunk file fuel at start n e
       (λ whole l s k. at-track other more at (omega arith) (typed ∙ l) ∙ (cc))
       (λ whole l next.
-      let r = track-place file fuel (chunk_end file at) start n next in
+      let r = track-place file fuel (chunk_end file at) _ next in
       past-chunk other more at (omega arith) (typed ∙ l) ∙ rw sized (track-same fuel more (chunk_end file at) (omega arith) next))
 
   header-same : Header file → chunk_end file 0 ≤ start → Header other
@@ -69,19 +68,19 @@ module _ (file other : List ℕ) (start n : ℕ) (same : take (start + n) other 
 module _
     (file other : List ℕ)
     (start n : ℕ)
-    (e : track_of file ≡ Track start n)
+    (e : track_of file ≡ track_at start n)
     (same : take (start + n) other ≡ take (start + n) file)
   where
     long-enough : start + n ≤ length other
     long-enough =
-        let within = track-within file start n e in
+        let within = track-within file _ e in
         omega (arith, length-take (start + n) other, length-take (start + n) file, ap length same)
 
-    pub behind-track : (track_of other ≡ Track start n) × (part other start n ≡ part file start n)
+    pub behind-track : (track_of other ≡ track_at start n) × (part other start n ≡ part file start n)
     behind-track = (
       by-header file start n e
           (λ h found.
-          let q = track-place file (suc (length file)) (chunk_end file 0) start n found in
+          let q = track-place file (suc (length file)) (chunk_end file 0) _ found in
           let header = header-same file other start n same long-enough h (omega arith) in
           let sized = chunk-same file other start n same long-enough 0 (omega arith) in
           track-behind other header
@@ -93,7 +92,7 @@ module _
 -- The same strokes and the same refusal, whatever the rule.
 pub behind-same :
     (rule : Rule) (file other : List ℕ) (start n : ℕ)
-    → track_of file ≡ Track start n
+    → track_of file ≡ track_at start n
     → take (start + n) other ≡ take (start + n) file
     → (file_refusal rule other ≡ file_refusal rule file) × (file_strokes rule other ≡ file_strokes rule file)
 unfolding file_refusal file_strokes

@@ -8,13 +8,12 @@ use mathlib.Core.List.{List, [], ◌∷◌}
 use native.Mathlib.Omega.{arith}
 use lib.ListN.{length, drop, length-take}
 use lib.Seq.{get_or-take, get_or-drop}
+use Rattle.std.proofs.Common.{Option, Some, None}
 use Rattle.lists.proofs.Cases.{either}
 use Rattle.midi_file.specs.declared.Bells.{Bells}
 use Rattle.midi_file.specs.declared.event.Event.{Event}
 use Rattle.midi_file.specs.declared.event.Event.TheVariants.{Message}
 use Rattle.midi_file.specs.declared.event.Placed.{Placed}
-use Rattle.midi_file.specs.declared.event.Step.{Step}
-use Rattle.midi_file.specs.declared.event.Step.TheVariants.{Read, Bad}
 use Rattle.midi_file.specs.File.{byte, part}
 use Rattle.midi_file.specs.Track.{step_at, running_behind, is_end, Events, joined, followed, events_from}
 use Rattle.midi_file.specs.Strokes.{note_on, note_of, strokes_of, any_outside}
@@ -137,14 +136,14 @@ module _ (bells : Bells) (file : List ℕ) (start size : ℕ) where
       ]
 
   walk_step :
-      (at fuel : ℕ) (step : Step)
+      (at fuel : ℕ) (step : Option Placed)
       → length track ≤ fuel + at
       → StepStands track (suc at) step
       → ((placed : Placed) → Stands track (suc at) placed → Walked (behind fuel track placed))
       → Walked (followed track (behind fuel track) step)
   unfolding followed strokes_of any_outside
-  walk_step at fuel Bad l q rest = inr (refl, refl)
-  walk_step at fuel (Read placed) l q rest =
+  walk_step at fuel None l q rest = inr (refl, refl)
+  walk_step at fuel (Some placed) l q rest =
       either Walked (is_end placed.event) (λ e. inr (walk_end placed e))
       (λ _. walk_more (suc at) fuel placed q (omega (arith, q.behind)) (rest placed q))
 

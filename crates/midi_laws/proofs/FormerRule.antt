@@ -6,9 +6,10 @@ use mathlib.Core.Logic.{◌⊎◌, inl, inr}
 use mathlib.Core.List.{List, ◌∷◌, ◌++◌}
 use native.Mathlib.Omega.{arith}
 use lib.ListN.{length}
+use Rattle.std.proofs.Common.{Result, Ok, Err}
+use Rattle.refusal.specs.declared.Refusal.{Refusal}
 use Rattle.midi_file.specs.declared.Bells.{Bells}
-use Rattle.midi_file.specs.declared.chunk.Chunk.{Chunk}
-use Rattle.midi_file.specs.declared.chunk.Chunk.TheVariants.{Track, Missing, Cut}
+use Rattle.midi_file.specs.declared.chunk.Track.{Track}
 use Rattle.midi_file.specs.declared.event.Event.TheVariants.{Message}
 use Rattle.midi_file.specs.declared.event.Placed.{Placed}
 use Rattle.midi_file.specs.File.{part, track_of}
@@ -39,12 +40,11 @@ module _ (bells : Bells) (file : List ℕ) where
   unfolding file_refusal file_strokes events_of
   lifted-or-same = go (track_of file) refl
     where
-      go : (chunk : Chunk) → track_of file ≡ chunk → Lifted bells file ⊎ Unchanged
-      go Missing e = inr (unchanged (rw (file_refusal, e)) (rw (file_strokes, e)))
-      go Cut e = inr (unchanged (rw (file_refusal, e)) (rw (file_strokes, e)))
-      go (Track start size) e =
-          elim (walk bells file start size (suc (length (part file start size))) 0 0 (omega arith) (omega arith)) [
-            | inl y ↦ inl (record { start = start; size = size; chunk = e; first = y })
+      go : (chunk : Result Track Refusal) → track_of file ≡ chunk → Lifted bells file ⊎ Unchanged
+      go (Err refusal) e = inr (unchanged (rw (file_refusal, e)) (rw (file_strokes, e)))
+      go (Ok track) e =
+          elim (walk bells file track.start track.size (suc (length (part file track.start track.size))) 0 0 (omega arith) (omega arith)) [
+            | inl y ↦ inl (record { start = track.start; size = track.size; chunk = e; first = y })
             | inr same ↦ inr (unchanged (rw (file_refusal, e, same.1)) (rw (file_strokes, e, same.0)))
           ]
 

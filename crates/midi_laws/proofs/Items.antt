@@ -9,20 +9,20 @@ use native.Mathlib.Omega.{arith}
 use lib.Dec.{eqb}
 use lib.ListN.{length, length-append}
 use borrow.Author.Tests.{lt-ltb, le-ltb, le-leb, ne_eqb, eqb-true}
+use Rattle.std.proofs.Common.{Option, Some}
 use Rattle.lists.proofs.Laws.{and_right, and_both}
 use Rattle.lists.proofs.Cases.{by-test}
 use Rattle.midi_file.specs.declared.event.Event.{Event}
 use Rattle.midi_file.specs.declared.event.Event.TheVariants.{Message, Meta}
-use Rattle.midi_file.specs.declared.event.Step.{Step}
-use Rattle.midi_file.specs.declared.event.Step.TheVariants.{Read}
+use Rattle.midi_file.specs.declared.event.Placed.{Placed}
 use Rattle.midi_file.specs.Track.{data_count, is_data, message_at, block_from, meta_of, meta_at, event_at, behind_time, step_at}
 use Rattle.midi_laws.specs.Writer.Item.{Channel, Aside}
 use Rattle.midi_laws.specs.Writer.{Item, quantity_bytes, quantity_limit, status_bytes, item_bytes, Sayable}
 use Rattle.midi_laws.proofs.Quantities.{From, from-behind, from-inside, from_in, from_byte, from_next, quantity-read}
 
 -- what is read, with the place where it ends
-abbrev ending : Event → ℕ → Step
-ending event end = Read (record { event = event; end = end })
+abbrev ending : Event → ℕ → Option Placed
+ending event end = Some (record { event = event; end = end })
 
 module _ {track : List ℕ} where
   data-read : {at b : ℕ} {rest : List ℕ} → From track at (b ∷ rest) → b < 128 → is_data track at ≡ true

@@ -10,8 +10,8 @@ use lib.Dec.{eqb, leb}
 use lib.ListN.{length, drop, length-append}
 use lib.Seq.{drop-cons, drop-drop, drop-append_seam}
 use borrow.Author.Tests.{lt-ltb, le-ltb, eqb-true, lt-leb}
+use Rattle.std.proofs.Common.{Some}
 use Rattle.lists.proofs.Cases.{by-test}
-use Rattle.midi_file.specs.declared.event.Quantity.TheVariants.{Value}
 use Rattle.midi_file.specs.File.{byte}
 use Rattle.midi_file.specs.Track.{quantity_from, quantity_at}
 use Rattle.midi_laws.specs.Writer.{leading, quantity_bytes, quantity_limit}
@@ -55,7 +55,7 @@ module _ {list : List ℕ} {at : ℕ} where
       unfolding quantity_from
       byte-before h = rw (from_in, from_byte, le-ltb b 128 h)
 
-      byte_last : b < 128 → quantity_from (suc left) value list at ≡ Value (128 * value + b) (suc at)
+      byte_last : b < 128 → quantity_from (suc left) value list at ≡ Some (record { value = 128 * value + b; behind = suc at })
       unfolding quantity_from
       byte_last h = rw (from_in, from_byte, lt-ltb b 128 h)
 
@@ -96,7 +96,7 @@ pub quantity-read :
     {list : List ℕ} {at : ℕ} (n : ℕ) (rest : List ℕ)
     → n < quantity_limit
     → From list at (quantity_bytes n ++ rest)
-    → quantity_at list at ≡ Value n (at + length (quantity_bytes n))
+    → quantity_at list at ≡ Some (record { value = n; behind = at + length (quantity_bytes n) })
 quantity-read {list} {at} n rest small f =
     let before = leading 3 (n / 128) in
     let last : ℕ = n % 128 in

@@ -7,17 +7,15 @@ use mathlib.Core.Bool.{cond}
 use mathlib.Core.List.{List, [], ◌∷◌}
 use native.Mathlib.Omega.{arith}
 use lib.ListN.{length}
+use Rattle.std.proofs.Common.{Option, Some, None, Result, Ok, Err}
 use Rattle.lists.proofs.Cases.{either}
 use Rattle.midi_file.specs.declared.event.Quantity.{Quantity}
-use Rattle.midi_file.specs.declared.event.Quantity.TheVariants.{Value, NoValue}
 use Rattle.midi_file.specs.declared.event.Event.{Event}
 use Rattle.midi_file.specs.declared.event.Placed.{Placed}
-use Rattle.midi_file.specs.declared.event.Step.{Step}
-use Rattle.midi_file.specs.declared.event.Step.TheVariants.{Read, Bad}
 use Rattle.midi_file.specs.declared.note.Note.{Note}
 use Rattle.midi_file.specs.declared.note.Note.TheVariants.{Outside, Silent, Struck}
-use Rattle.midi_file.specs.declared.chunk.Chunk.{Chunk}
-use Rattle.midi_file.specs.declared.chunk.Chunk.TheVariants.{Track, Missing, Cut}
+use Rattle.refusal.specs.declared.Refusal.{Refusal}
+use Rattle.midi_file.specs.declared.chunk.Track.{Track}
 use Rattle.midi_file.specs.File.{part, track_of}
 use Rattle.midi_file.specs.Track.{quantity_at, behind_time, step_at, running_behind, is_end, Events, joined, closed, followed, events_from, events_of}
 use Rattle.midi_file.specs.Strokes.{Rule, note_of}
@@ -31,23 +29,23 @@ Chained track at [] = Unit {0}
 Chained track at (placed ∷ events) = Stands track (suc at) placed × Chained track placed.end events
 
 module _ (track : List ℕ) where
-  behind-stands : (running at : ℕ) (q : Quantity) → QuantityEnds track at q → StepStands track (suc at) (behind_time track running q)
+  behind-stands : (running at : ℕ) (q : Option Quantity) → QuantityEnds track at q → StepStands track (suc at) (behind_time track running q)
   unfolding behind_time
-  behind-stands running at (Value time behind) q = event-stands track (suc at) running behind q.0
-  behind-stands running at NoValue q = tt
+  behind-stands running at (Some time) q = event-stands track (suc at) running time.behind q.0
+  behind-stands running at None q = tt
 
   pub step-stands : (running at : ℕ) → StepStands track (suc at) (step_at track running at)
   step-stands running at = behind-stands running at (quantity_at track at) (quantity-ends track 4 0 at at (omega arith))
 
   followed-chained :
-      (at : ℕ) (behind : Placed → Events) (step : Step)
+      (at : ℕ) (behind : Placed → Events) (step : Option Placed)
       → StepStands track (suc at) step
       → ((placed : Placed) → Chained track placed.end (behind placed).list)
       → Chained track at (followed track behind step).list
   unfolding followed
-  followed-chained at behind (Read placed) q h =
+  followed-chained at behind (Some placed) q h =
       either (λ (events : Events). Chained track at events.list) (is_end placed.event) (λ _. (q, tt)) (λ _. (q, h placed))
-  followed-chained at behind Bad q h = tt
+  followed-chained at behind None q h = tt
 
   events-chained : (fuel running at : ℕ) → Chained track at (events_from fuel track running at).list
   unfolding events_from
@@ -63,13 +61,13 @@ module _ (track : List ℕ) where
 
   -- More fuel than there are bytes left makes no difference.
   followed_same :
-      (at f g : ℕ) (step : Step)
+      (at f g : ℕ) (step : Option Placed)
       → StepStands track (suc at) step
       → ((placed : Placed) → Stands track (suc at) placed → behind f track placed ≡ behind g track placed)
       → followed track (behind f track) step ≡ followed track (behind g track) step
   unfolding followed
-  followed_same at f g Bad q same = refl
-  followed_same at f g (Read placed) q same =
+  followed_same at f g None q same = refl
+  followed_same at f g (Some placed) q same =
       ap (λ (events : Events). cond (is_end placed.event) (closed track placed) (joined placed events)) (same placed q)
 
   pub enough-fuel :
@@ -108,7 +106,6 @@ pub by-track :
 unfolding file_strokes
 by-track P rule file none some = go (track_of file) refl
   where
-    go : (chunk : Chunk) → track_of file ≡ chunk → P (file_strokes rule file)
-    go Missing e = rw (file_strokes, e) none
-    go Cut e = rw (file_strokes, e) none
-    go (Track start n) e = rw (file_strokes, e) (some start n)
+    go : (chunk : Result Track Refusal) → track_of file ≡ chunk → P (file_strokes rule file)
+    go (Err refusal) e = rw (file_strokes, e) none
+    go (Ok track) e = rw (file_strokes, e) (some track.start track.size)

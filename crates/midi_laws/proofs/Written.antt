@@ -12,7 +12,6 @@ use lib.Seq.{take-length}
 use borrow.Author.Tests.{lt-ltb, le-ltb, eq-eqb, ne_eqb, eqb-true, eqb-false}
 use Rattle.lists.proofs.Cases.{by-test}
 use Rattle.midi_file.specs.declared.Bells.{Bells}
-use Rattle.midi_file.specs.declared.chunk.Chunk.TheVariants.{Track}
 use Rattle.midi_file.specs.File.{part, number_at, same_bytes, chunk_length, track_of}
 use Rattle.midi_file.specs.Track.{is_end, running_behind, joined, Events, followed, events_from, events_of}
 use Rattle.midi_file.specs.Strokes.{is_outside, note_on, is_note_on, strokes_of, any_outside}
@@ -33,7 +32,7 @@ use Rattle.midi_laws.specs.Writer.{
   keys,
   all_inside,
 }
-use Rattle.midi_laws.proofs.Chunks.{track-behind, at-track}
+use Rattle.midi_laws.proofs.Chunks.{track_at, track-behind, at-track}
 use Rattle.midi_laws.proofs.Quantities.{From, from_all, from-behind}
 use Rattle.midi_laws.proofs.Items.{event_of, aside-step, item-step, item-some}
 
@@ -136,13 +135,13 @@ module _ (division : ℕ) (items : List Item) (small : length (track_bytes items
   unfolding file_of number_at
   length-written = four-back (length (track_bytes items)) small
 
-  track-written : track_of (file_of division items) ≡ Track 22 (length (track_bytes items))
+  track-written : track_of (file_of division items) ≡ track_at 22 (length (track_bytes items))
   unfolding file_of number_at same_bytes
   track-written =
       let file = file_of division items in
       track-behind file header-written
       ∙ at-track file (length file) 14 (omega (arith, length-written)) refl
-      ∙ ap (Track 22) length-written
+      ∙ ap (track_at 22) length-written
 
   part-written : part (file_of division items) 22 (length (track_bytes items)) ≡ track_bytes items
   unfolding file_of

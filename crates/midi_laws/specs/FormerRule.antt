@@ -1,8 +1,7 @@
 -- The rule at a Note On before document 02, A.6, and the lifted keys that it was stopped at. The theorems of proofs/FormerRule.antt alone
 -- speak of it.
-use Rattle.std.specs.Prelude.{ℕ, suc, ◌+◌, ◌≡◌, true, false, cond, List, ◌∷◌, ◌++◌, eqb, length}
+use Rattle.std.specs.Prelude.{ℕ, suc, Ok, ◌+◌, ◌≡◌, true, false, cond, List, ◌∷◌, ◌++◌, eqb, length}
 use Rattle.midi_file.specs.declared.Bells.{Bells}
-use Rattle.midi_file.specs.declared.chunk.Chunk.TheVariants.{Track}
 use Rattle.midi_file.specs.declared.event.Event.TheVariants.{Message}
 use Rattle.midi_file.specs.declared.event.Placed.{Placed}
 use Rattle.midi_file.specs.declared.note.Note.TheVariants.{Outside, Silent, Struck}
@@ -71,7 +70,7 @@ pub record FirstLifted (bells : Bells) (file : List ℕ) (start size : ℕ) (eve
 pub record Lifted (bells : Bells) (file : List ℕ) : Type 0 where
   pub start : ℕ
   pub size : ℕ
-  pub chunk : track_of file ≡ Track start size
+  pub chunk : track_of file ≡ Ok (record { start = start; size = size })
   pub first : FirstLifted bells file start size (events_of (part file start size))
 
 -- "They now give what reading on gives": the strokes of the events before the Note On, as they were, and of those behind it; and what those

@@ -1,44 +1,34 @@
 -- `read` meets its contract.
 use Prim.Native.Nat.{◌+◌, ◌-◌}
-use mathlib.Core.Path.{◌≡◌, sym, ◌∙◌}
 use native.Mathlib.Omega.{arith}
-use Rattle.refusal.specs.Number.{number}
+use mathlib.Core.Path.{◌≡◌, sym}
+use Rattle.std.proofs.lemmas.Result.{err_from_is_err_and}
 use Rattle.midi_file.specs.Strokes.{note_on}
 use Rattle.midi_file.proofs.Chunks.{track-within}
-use Rattle.midi_file.proofs.Judging.{read-missing, read-cut, read_whole}
+use Rattle.midi_file.proofs.Judging.{read_refused, read_whole}
 use Rattle.midi_file.proofs.read.Goals as goal
 
-pub overflow_add-end : goal.overflow_add-end
-overflow_add-end c =
-    let v = c.in-Track in
-    omega (arith, track-within c.args.file.now v.start v.length (sym c.track_of-chunk.ensures ∙ v.is), c.well_formed)
+pub returns-in_err-start : goal.returns-in_err-start
+returns-in_err-start c =
+    let p = err_from_is_err_and c.from_residual.result c.from_residual.ensures.1 in
+    let done = read_refused (note_on c.args.bells) c.args.file.now c.args.out.now _ (sym c.in_err-start.ensures) in
+    rw (p.1, p.2) (record { verdict = done.0; count = tt; buffer = done.2 })
+
+pub overflow_add-start : goal.overflow_add-start
+overflow_add-start c =
+    omega (arith, track-within c.args.file.now _ (sym c.in_ok-start.ensures), c.well_formed)
 
 pub slice_bounds-read_track-end : goal.slice_bounds-read_track-end
-slice_bounds-read_track-end c =
-    let v = c.in-Track in
-    omega (arith, track-within c.args.file.now v.start v.length (sym c.track_of-chunk.ensures ∙ v.is))
+slice_bounds-read_track-end c = omega (arith, track-within c.args.file.now _ (sym c.in_ok-start.ensures))
 
-pub returns-in-Missing : goal.returns-in-Missing
-returns-in-Missing c =
+pub returns : goal.returns
+returns c =
     let a = c.args in
-    let done = read-missing (note_on a.bells) a.file.now a.out.now (sym c.track_of-chunk.ensures ∙ c.in-Missing.is) in
-    record { verdict = done.0; count = done.1.0; buffer = done.1.1 }
-
-pub returns-in-Cut : goal.returns-in-Cut
-returns-in-Cut c =
-    let a = c.args in
-    let done = read-cut (note_on a.bells) a.file.now a.out.now (sym c.track_of-chunk.ensures ∙ c.in-Cut.is) in
-    record { verdict = done.0; count = done.1.0; buffer = done.1.1 }
-
-pub returns-in-Track : goal.returns-in-Track
-returns-in-Track c =
-    let a = c.args in
-    let v = c.in-Track in
+    let track = c.in_ok-start.field-0 in
     let u = c.read_track in
-    let long : v.start + v.length - v.start ≡ v.length = omega arith in
+    let long : track.start + track.size - track.start ≡ track.size = omega arith in
     let done =
-    read_whole (note_on a.bells) a.file.now a.out.now v.start v.length (sym c.track_of-chunk.ensures ∙ v.is)
-    (number u.result.verdict) u.result.count u.new.out
-    (rw long at u.ensures.verdict, (rw long at u.ensures.count, rw long at u.ensures.buffer))
+    read_whole (note_on a.bells) a.file.now a.out.now track (sym c.in_ok-start.ensures) u.result u.new.out
+    (rw long at u.ensures.verdict, rw long at u.ensures.count, rw long at u.ensures.buffer)
     in
-    record { verdict = done.0; count = done.1.0; buffer = done.1.1 }
+    record { verdict = done.0; count = done.1; buffer = done.2 }

@@ -5,10 +5,10 @@ use Rattle.midi_file.proofs.Chunks.{counted_none, counted-more, three-bytes}
 use Rattle.midi_file.proofs.chunk.number_at.Goals as goal
 
 pub loop-i-init : goal.loop-i-init
-loop-i-init c = (omega arith, counted_none c.args.file.now c.args.at)
+loop-i-init c = counted_none c.args.file.now c.args.at
 
 pub overflow_mul-number : goal.overflow_mul-number
-overflow_mul-number c = omega (arith, three-bytes c.loop-i.i (omega arith), c.loop-i.invariant.1.small)
+overflow_mul-number c = omega (arith, three-bytes c.loop-i.i (omega arith), c.loop-i.invariant.small)
 
 pub overflow_add-number-in-loop-i : goal.overflow_add-number-in-loop-i
 overflow_add-number-in-loop-i c =
@@ -16,13 +16,11 @@ overflow_add-number-in-loop-i c =
       arith,
       c.shared_slice_known-1.given (c.args.at + c.loop-i.i),
       three-bytes c.loop-i.i (omega arith),
-      c.loop-i.invariant.1.small,
+      c.loop-i.invariant.small,
     )
 
 pub loop-i-preserved : goal.loop-i-preserved
 loop-i-preserved c =
-    let a = c.args in (
-      omega arith,
-      counted-more a.file.now a.at c.loop-i.number c.loop-i.i c.loop-i.invariant.1
-          (omega (arith, c.shared_slice_known-1.given (a.at + c.loop-i.i))),
-    )
+    let a = c.args in
+    counted-more a.file.now a.at c.loop-i.number c.loop-i.i c.loop-i.invariant
+    (omega (arith, c.shared_slice_known-1.given (a.at + c.loop-i.i)))

@@ -1,9 +1,9 @@
--- `midi_file::event::quantity_at` meets its contract: the bytes passed make the value so far, and `left` falls.
+-- `midi_file::event::quantity_at` meets its contract: the bytes passed make the value so far.
+use Prim.Native.Nat.{◌+◌, ◌-◌, ◌≤◌, ◌<◌}
+use lib.ListN.{length}
 use Rattle.midi_file.proofs.Quantities.{Passed}
 use Rattle.midi_file.proofs.event.quantity_at.Given as goal
 
-abbrev pub invariant-loop-left : goal.invariant-loop-left
-invariant-loop-left l = Passed l.track l.from l.value l.at l.left
-
-abbrev pub decreases-loop-left : goal.decreases-loop-left
-decreases-loop-left l = l.left
+abbrev pub invariant-loop-i : goal.invariant-loop-i
+invariant-loop-i l =
+    (0 < l.i → l.from + l.i ≤ length l.track) × Passed l.track l.from l.value (l.from + l.i) (4 - l.i)
