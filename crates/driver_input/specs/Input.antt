@@ -1,5 +1,5 @@
 -- The values of a call as bytes (differential/calls.py): numbers of 8 bytes each, little-endian, one behind another.
-use Rattle.std.specs.Prelude.{ℕ, ◌*◌, ◌%◌, min, Bool, List, ◌++◌, length, take, drop, ltb}
+use Rattle.std.specs.Prelude.{ℕ, ◌*◌, ◌%◌, min, Bool, List, length, take, drop, ltb}
 use Rattle.lists.specs.Lists.{tabulate}
 use Rattle.fields.specs.Fields.{number_at}
 
@@ -24,10 +24,6 @@ past_buffer s = drop (number_in s 0) (numbers_from s 1)
 -- A list is its length, of which 32 bits count, and then its numbers; what stands behind it.
 unfoldable pub past_list : List ℕ → List ℕ
 past_list s = numbers_from (numbers_from s 1) (number_in s 0 % 4294967296)
-
--- Bytes are copied into room: as many as there are and as there is room for; what stands behind them stays.
-unfoldable pub copied : List ℕ → List ℕ → List ℕ
-copied bytes room = take (length room) bytes ++ drop (length bytes) room
 
 -- A buffer, and a list, that a call may alter, in so much room: a number that is missing is 0.
 unfoldable pub lent_buffer : List ℕ → ℕ → List ℕ
