@@ -15,18 +15,15 @@ const CASE: usize = 16;
 
 // The number in 4 bytes.
 fn word(case: &[u8], at: usize) -> u32 {
-    (fields::number_at(case, at, Width::Word) % 4294967296) as u32
+    fields::number_at(case, at, Width::Word) as u32
 }
 
 // What a key is after so many turns.
 fn turned(r: u32, n: u64, turns: u32) -> u32 {
     let one = Fingerprint::of_number(1);
     let mut key = Key::new(r);
-    let mut left = turns;
-    while 0 < left {
-        let sum = one.join(key, one, n);
-        key = Key::new(sum.number());
-        left = left - 1;
+    for _ in 0..turns {
+        key = Key::new(one.join(key, one, n).number());
     }
     key.number()
 }
@@ -41,16 +38,17 @@ fn say(rt: &HostRuntime, case: &[u8]) -> io::Result<()> {
 
 // The lines of all cases that are whole.
 fn say_all(rt: &HostRuntime, cases: &[u8]) -> io::Result<()> {
-    let mut i: usize = 0;
-    while i < cases.len() / CASE {
-        say(rt, &cases[i * CASE..])?;
-        i = i + 1;
+    for case in cases.chunks_exact(CASE) {
+        say(rt, case)?;
     }
     Ok(())
 }
 
 fn main(rt: HostRuntime) -> io::Result<()> {
     let mut input = [0u8; ROOM];
-    let got = descriptor::fill(&mut rt.stdin(), &mut input);
-    say_all(&rt, &input[..got.count])
+    let count = match descriptor::fill(&mut rt.stdin(), &mut input) {
+        Ok(count) => count,
+        Err(failed) => failed.count,
+    };
+    say_all(&rt, &input[..count])
 }

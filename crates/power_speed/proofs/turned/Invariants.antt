@@ -1,9 +1,0 @@
--- `power_speed::turned` is safe and ends.
-
-use Rattle.power_speed.proofs.turned.Given as goal
-
-abbrev pub invariant-loop-left : goal.invariant-loop-left
-invariant-loop-left l = Unit {0}
-
-abbrev pub decreases-loop-left : goal.decreases-loop-left
-decreases-loop-left l = l.left
