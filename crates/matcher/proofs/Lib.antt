@@ -1,4 +1,5 @@
 pub mod Sound
+pub mod Judging
 pub mod FreshFits
 pub mod Readings
 pub mod StrokeFits

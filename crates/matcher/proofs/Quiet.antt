@@ -9,8 +9,8 @@ use borrow.Author.Tests.{lt-ltb}
 use Rattle.fingerprint.specs.Fingerprint.{empty}
 use Rattle.ladder.specs.Prefix.{levels}
 use Rattle.stage.specs.declared.Mark.{Mark}
-use Rattle.stage.specs.Stage.{max_taken}
-use Rattle.walk.specs.Walk.{no_answer, compared, next_mark}
+use Rattle.stage.specs.Stage.{max_taken, next_mark}
+use Rattle.walk.specs.Walk.{no_answer, compared}
 use Rattle.walk.specs.Quiet.{is_first, Unripe}
 use Rattle.walk.proofs.Quiet.{walked-quietly}
 use Rattle.matcher.specs.declared.Matcher.{Matcher}

@@ -12,14 +12,13 @@ use Rattle.lists.proofs.Laws.{every-at, every-intro}
 use Rattle.lists.proofs.Cases.{by-test, each}
 use Rattle.signature.specs.Signature.{signature_fits}
 use Rattle.signature.proofs.Card.{SoundCard, sound-card}
-use Rattle.stage.specs.Stage.{max_taken, now_fits}
+use Rattle.stage.specs.Stage.{max_taken, now_fits, next_mark}
 use Rattle.stage.specs.Stages.{stage_count, stage_at, stages_fit, shapes_fit}
 use Rattle.stage.proofs.Fit.{Fit, fits-of}
 use Rattle.stage.proofs.Follows.{Follows, shape_of, last_of, stage-fits}
 use Rattle.stage.proofs.Now.{SoundNow, sound-now, now-fits}
-use Rattle.walk.specs.Walk.{next_mark}
 use Rattle.matcher.specs.declared.Matcher.{Matcher}
-use Rattle.matcher.specs.Matcher.{matcher_fits, shapely, moved}
+use Rattle.matcher.specs.Matcher.{matcher_fits, moved}
 use Rattle.matcher.specs.Stroke.{walked, stroke_refusal, stroke_answer, after_stroke}
 
 -- What a watch that is no misfit says of itself.
@@ -48,18 +47,6 @@ sound w e =
       stage = λ i l. shape_of _ _ _ i _ (every-at _ stage_count q.1.1.0 i l);
       follows = λ i l. last_of _ _ _ i _ (every-at _ stage_count q.1.1.0 i l);
     }
-
--- What keeps a stroke's numbers in their range: the card, and document 01's rules for each stage.
-pub shapely-of :
-    (w : Matcher)
-    → shapely w ≡ true
-    → SoundCard w.signature × (shapes_fit w.signature.length w.now.at w.stages ≡ true)
-unfolding shapely
-shapely-of w e =
-    let q =
-    each (signature_fits w.signature) (now_fits w.now ∷ shapes_fit w.signature.length w.now.at w.stages ∷ []) e
-    in
-    (sound-card _ q.0, q.1.1.0)
 
 -- What its card says of itself.
 pub card-of : {w : Matcher} → Sound w → SoundCard w.signature

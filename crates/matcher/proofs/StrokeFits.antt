@@ -4,9 +4,9 @@ use Prim.Native.Nat.{ℕ}
 use mathlib.Core.Path.{◌≡◌, refl}
 use mathlib.Core.Bool.{true}
 use native.Mathlib.Omega.{arith}
+use Rattle.stage.specs.Stage.{next_mark}
 use Rattle.fingerprint.proofs.Laws.{pushed-below}
 use Rattle.walk.specs.declared.Round.{Round}
-use Rattle.walk.specs.Walk.{next_mark}
 use Rattle.walk.proofs.Midway.{walked-fit}
 use Rattle.walk.proofs.WalkFollows.{walked-follows}
 use Rattle.matcher.specs.declared.Matcher.{Matcher}

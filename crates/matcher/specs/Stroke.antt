@@ -1,10 +1,10 @@
 -- One byte for a watch (document 01, "Ladder"): what it is answered, and what becomes of the watch. Defined for every watch, also for those to
 -- which no history leads.
 use Rattle.std.specs.Prelude.{ℕ, cond, ltb, eqb}
-use Rattle.stage.specs.Stage.{max_taken}
+use Rattle.stage.specs.Stage.{max_taken, next_mark}
 use Rattle.walk.specs.declared.Answer.{Answer}
 use Rattle.walk.specs.declared.Walk.{Walk}
-use Rattle.walk.specs.Walk.{no_answer, next_mark, walked_from}
+use Rattle.walk.specs.Walk.{no_answer, walked_from}
 use Rattle.matcher.specs.declared.Matcher.{Matcher}
 use Rattle.matcher.specs.Matcher.{matcher_fits, moved}
 
