@@ -4,17 +4,30 @@ use Prim.Native.Nat.{ℕ, ◌+◌, ◌*◌, ◌≤◌}
 use mathlib.Core.Path.{◌≡◌, refl, ◌∙◌, ap}
 use mathlib.Core.List.{List, [], ◌∷◌, ◌++◌}
 use native.Mathlib.Omega.{arith}
-use lib.ListN.{length}
+use lib.ListN.{length, take}
+use lib.Seq.{length-take-le}
+use Rattle.std.proofs.lemmas.List.{get_or-take}
 use Rattle.fields.specs.Fields.{Field, widths, size, bytes_of, gathered, pasted, stamped}
 use Rattle.fields.specs.Calls.{put_each}
 use Rattle.fields.proofs.Gathered.{put-each, stamped-each, stamped-stamped}
-use Rattle.fingerprint.specs.Fingerprint.{key_numbers, print_numbers}
+use Rattle.fields.proofs.Again.{gathered-same}
+use Rattle.fingerprint.specs.declared.Fingerprint.{Fingerprint}
+use Rattle.fingerprint.specs.Fingerprint.{empty, key_numbers, print_numbers}
 use Rattle.ladder.specs.Prefix.{levels}
 use Rattle.signature.specs.declared.Signature.{Signature}
-use Rattle.record.specs.Layout.{word, kind_field, key_fields, print_fields_of}
+use Rattle.record.specs.Layout.{word, kind_field, key_fields, print_fields, print_fields_of}
 use Rattle.record.specs.Places.{print_size, m_place, key_place, print_place}
 use Rattle.card_record.specs.Layout.{signature_kind, signature_body, signature_record}
 use Rattle.card_record.proofs.Sizes.{signature-length}
+
+-- The first n fingerprints of a card are written as a list of their own.
+pub prints-taken :
+    (prints : List Fingerprint) (n : ℕ)
+    → n ≤ length prints
+    → gathered (print_fields_of (take n prints)) (length (take n prints)) ≡ gathered (print_fields_of prints) n
+prints-taken prints n h =
+    rw (length-take-le n prints h)
+    (gathered-same (print_fields_of (take n prints)) (print_fields_of prints) n (λ i l. ap print_fields (get_or-take n prints i empty l)))
 
 pub signature-put :
     (s : Signature) (k n : ℕ) (l b₁ b₂ b₃ b₄ : List ℕ)

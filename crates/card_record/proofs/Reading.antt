@@ -6,7 +6,6 @@ use mathlib.Core.Bool.{true, false}
 use mathlib.Core.List.{List}
 use borrow.Author.Tests.{ne_eqb}
 use Rattle.signature.specs.declared.Signature.{Signature}
-use Rattle.signature.specs.Signature.{no_signature}
 use Rattle.record.specs.Layout.{length_width, length_field}
 use Rattle.record.specs.Calls.{head_refusal}
 use Rattle.card_record.specs.Layout.{signature_kind, signature_at}
@@ -20,17 +19,6 @@ module _ (s : List ℕ) where
   pub unsuited : 0 ≡ head_refusal signature_kind signature_least s → signature_suits s ≡ false → 10 ≡ read_refusal s
   unfolding read_refusal
   unsuited e h = rw (← e, h)
-
-  -- refused: nothing is handed back
-  pub read-nothing :
-      (n taken : ℕ) (card : Signature)
-      → (n ≡ 0 → ⊥)
-      → n ≡ read_refusal s
-      → card ≡ no_signature
-      → taken ≡ 0
-      → (n ≡ read_refusal s) × ((card ≡ read_signature s) × (taken ≡ read_taken s))
-  unfolding read_signature read_taken
-  read-nothing n taken card h e ec et = rw (← e, ne_eqb n 0 h) (refl, (ec, et))
 
   pub read_whole :
       (taken : ℕ) (card : Signature)

@@ -1,11 +1,11 @@
 // The record of a card (document 01, "Records"): written into a lent buffer, and read back.
 #![tactic(auto)]
 
-ghost use Rattle.std.specs.Prelude.{◌≡◌, ◌+◌, ◌*◌, ◌≤◌, ◌<◌, length};
+ghost use Rattle.std.specs.Prelude.{◌≡◌, ◌+◌, ◌*◌, ◌≤◌, ◌<◌, length, IfOk};
 ghost use Rattle.ladder.specs.Prefix.{levels};
 ghost use Rattle.lists.specs.Lists.{tabulate};
-ghost use Rattle.refusal.specs.Number.{refusal_number, number};
-ghost use Rattle.signature.specs.Signature.{places, no_signature};
+ghost use Rattle.refusal.specs.Number.{number};
+ghost use Rattle.signature.specs.Signature.{places};
 ghost use Rattle.fields.specs.Fields.{values_at, gathered, stamped, pasted};
 ghost use Rattle.record.specs.Layout.{length_width, print_fields_of};
 ghost use Rattle.record.specs.Places.{print_size, print_place};
@@ -14,21 +14,21 @@ ghost use Rattle.card_record.specs.Calls.{write_refusal, write_used, write_buffe
 
 use fingerprint::Fingerprint;
 use record::{
-    KEY_AT, M_AT, PRINT_AT, PRINT_SIZE, WORD, Written, check_head, key_at, print_at, put_head,
-    put_key, put_print, put_word, word_at,
+    KEY_AT, M_AT, PRINT_AT, PRINT_SIZE, WORD, check_head, key_at, print_at, put_head, put_key,
+    put_print, put_word, word_at,
 };
-use refusal::{Refusal, Verdict};
+use refusal::Refusal;
 use signature::{PLACES, Signature, levels};
+use std::array;
 
 // The kind of a card's record, and the least length field that one can have.
 pub const SIGNATURE_KIND: u64 = 3;
 
 pub const SIGNATURE_LEAST: u64 = 10;
 
-// What reading a card hands back: the card, and the bytes taken; all 0 where the call is refused.
+// What reading a card hands back: the card, and the bytes taken.
 #[derive(Clone, Copy)]
 pub struct SignatureRead {
-    pub verdict: Verdict,
     pub signature: Signature,
     pub taken: usize,
 }
@@ -40,16 +40,13 @@ fn signature_size(k: u32) -> usize
     PRINT_AT + PRINT_SIZE * ((k as usize) + 1)
 }
 
-// Writes the first n fingerprints.
-fn put_prints(buf: &mut [u8], prints: [Fingerprint; PLACES], n: usize)
-    requires { (print_place + print_size * n ≤ length buf.old) × (n ≤ places) }
-    ensures { buf.new ≡ stamped buf.old print_place (gathered (print_fields_of prints) n) }
+// Writes fingerprints one behind another.
+fn put_prints(buf: &mut [u8], prints: &[Fingerprint])
+    requires { print_place + print_size * length prints.now ≤ length buf.old }
+    ensures { buf.new ≡ stamped buf.old print_place (gathered (print_fields_of prints.now) (length prints.now)) }
 {
-    let mut i: usize = 0;
-    while i < n {
-        let print = prints[i];
-        put_print(buf, PRINT_AT + PRINT_SIZE * i, print);
-        i = i + 1;
+    for (i, print) in prints.iter().enumerate() {
+        put_print(buf, PRINT_AT + PRINT_SIZE * i, *print);
     }
 }
 
@@ -58,39 +55,28 @@ fn put_signature(buf: &mut [u8], signature: Signature, k: u32)
     requires { (k ≡ levels signature.length) × (k < places) × (print_place + print_size * (k + 1) ≤ length buf.old) }
     ensures { buf.new ≡ pasted buf.old 0 (signature_record signature) }
 {
-    let key = signature.key;
-    let prints = signature.prints;
     put_head(buf, (signature_size(k) - WORD) as u32, SIGNATURE_KIND);
     put_word(buf, M_AT, signature.length);
-    put_key(buf, KEY_AT, key);
-    put_prints(buf, prints, (k as usize) + 1);
+    put_key(buf, KEY_AT, signature.key);
+    put_prints(buf, &signature.prints[..(k as usize) + 1]);
 }
 
-// Writes a card into the front of the buffer. Refusals: 10 misfit, 7 no space.
-pub fn write_signature(signature: Signature, buf: &mut [u8]) -> Written
-    ensures verdict { number result.verdict ≡ write_refusal signature buf.old }
-    ensures used { result.used ≡ write_used signature buf.old }
+// Writes a card into the front of the buffer, and gives the bytes used. Refusals: 10 misfit, 7 no space.
+pub fn write_signature(signature: Signature, buf: &mut [u8]) -> Result<usize, Refusal>
+    ensures verdict { number result ≡ write_refusal signature buf.old }
+    ensures used { IfOk result (λ used. used ≡ write_used signature buf.old) }
     ensures buffer { buf.new ≡ write_buffer signature buf.old }
 {
     if !signature.fits() {
-        return Written {
-            verdict: Verdict::Refused(Refusal::Misfit),
-            used: 0,
-        };
+        return Err(Refusal::Misfit);
     }
     let k = levels(signature.length);
     let size = signature_size(k);
     if buf.len() < size {
-        return Written {
-            verdict: Verdict::Refused(Refusal::NoSpace),
-            used: 0,
-        };
+        return Err(Refusal::NoSpace);
     }
     put_signature(buf, signature, k);
-    Written {
-        verdict: Verdict::Accepted,
-        used: size,
-    }
+    Ok(size)
 }
 
 // The fingerprint at place i of a card's record with k stages: nothing past P_k.
@@ -98,23 +84,17 @@ fn place_at(buf: &[u8], k: u32, i: usize) -> Fingerprint
     requires { i < places }
     ensures { result ≡ signature_place (values_at buf.now 0 (signature_widths k)) k i }
 {
-    if (k as usize) < i {
-        return Fingerprint::empty();
+    if i <= (k as usize) {
+        print_at(buf, PRINT_AT + PRINT_SIZE * i)
+    } else {
+        Fingerprint::empty()
     }
-    print_at(buf, PRINT_AT + PRINT_SIZE * i)
 }
 
 fn prints_at(buf: &[u8], k: u32) -> [Fingerprint; PLACES]
     ensures { result ≡ tabulate (signature_place (values_at buf.now 0 (signature_widths k)) k) places }
 {
-    let nothing = Fingerprint::empty();
-    let mut prints = [nothing; PLACES];
-    let mut i: usize = 0;
-    while i < PLACES {
-        prints[i] = place_at(buf, k, i);
-        i = i + 1;
-    }
-    prints
+    array::from_fn(|i| place_at(buf, k, i))
 }
 
 // The card that a card's record makes.
@@ -122,47 +102,28 @@ fn signature_at(buf: &[u8]) -> Signature
     ensures { result ≡ signature_at buf.now }
 {
     let m = word_at(buf, M_AT);
-    let key = key_at(buf, KEY_AT);
     let prints = prints_at(buf, levels(m));
     Signature {
         length: m,
-        key,
+        key: key_at(buf, KEY_AT),
         prints,
     }
 }
 
-fn unread(refusal: Refusal) -> SignatureRead
-    ensures { (number result.verdict ≡ refusal_number refusal) × (result.signature ≡ no_signature) × (result.taken ≡ 0) }
-{
-    SignatureRead {
-        verdict: Verdict::Refused(refusal),
-        signature: Signature::none(),
-        taken: 0,
-    }
-}
-
 // Reads a card. Refusals: those of the head, then 10 where the length does not suit k or the card misfits.
-pub fn read_signature(buf: &[u8]) -> SignatureRead
-    ensures verdict { number result.verdict ≡ read_refusal buf.now }
-    ensures signature { result.signature ≡ read_signature buf.now }
-    ensures taken { result.taken ≡ read_taken buf.now }
+pub fn read_signature(buf: &[u8]) -> Result<SignatureRead, Refusal>
+    ensures verdict { number result ≡ read_refusal buf.now }
+    ensures signature { IfOk result (λ read. read.signature ≡ read_signature buf.now) }
+    ensures taken { IfOk result (λ read. read.taken ≡ read_taken buf.now) }
 {
-    let head = check_head(buf, SIGNATURE_KIND, SIGNATURE_LEAST);
-    if let Verdict::Refused(refusal) = head {
-        return unread(refusal);
-    }
+    check_head(buf, SIGNATURE_KIND, SIGNATURE_LEAST)?;
     let taken = (word_at(buf, 0) as usize) + WORD;
-    let k = levels(word_at(buf, M_AT));
-    if taken != signature_size(k) {
-        return unread(Refusal::Misfit);
+    if taken != signature_size(levels(word_at(buf, M_AT))) {
+        return Err(Refusal::Misfit);
     }
     let signature = signature_at(buf);
     if !signature.fits() {
-        return unread(Refusal::Misfit);
+        return Err(Refusal::Misfit);
     }
-    SignatureRead {
-        verdict: Verdict::Accepted,
-        signature,
-        taken,
-    }
+    Ok(SignatureRead { signature, taken })
 }

@@ -4,3 +4,4 @@ pub mod Fits
 pub mod Writing
 pub mod Accepted
 pub mod Refused
+pub mod Made

@@ -6,9 +6,9 @@ use Rattle.record.specs.Layout.{print_from}
 use Rattle.card_record.proofs.Positions.{print-place}
 use Rattle.card_record.proofs.place_at.Goals as goal
 
-pub returns : goal.returns
+pub returns-then-i-k : goal.returns-then-i-k
 unfolding print_from
-returns c =
+returns-then-i-k c =
     let a = c.args in
-    let place = print-place a.buf.now a.k a.i c.if-k-i.false in
-    rw (le-leb _ _ c.if-k-i.false) (c.print_at.ensures ∙ ap print_of (sym place))
+    let place = print-place a.buf.now a.k a.i c.if-i-k.true in
+    rw (le-leb _ _ c.if-i-k.true) (c.print_at.ensures ∙ ap print_of (sym place))

@@ -12,16 +12,21 @@ use Rattle.card_record.proofs.put_prints.Goals as goal
 
 pub loop-i-init : goal.loop-i-init
 loop-i-init c =
-    (omega arith, refl, stamped-none c.args.buf.now print_place (print_fields_of c.args.prints))
+    record { long = refl; written = stamped-none c.args.buf.now print_place (print_fields_of c.args.prints.now) }
 
 pub loop-i-preserved : goal.loop-i-preserved
 unfolding size print_numbers
 loop-i-preserved c =
-    let a = c.args in (
-      omega arith,
-      search rules,
-      c.put_print.ensures
-          ∙ put-each (print_fields_of a.prints c.loop-i.i) c.loop-i.buf (print_place + print_size * c.loop-i.i) (omega arith)
-          ∙ stamped-more a.buf.now print_place (print_fields_of a.prints) print_size (λ j. refl) c.loop-i.buf
-          c.loop-i.i (print_place + print_size * c.loop-i.i) (omega arith) (omega arith) c.loop-i.invariant.2,
-    )
+    let a = c.args in
+    let i = c.loop-i.i in
+    let at = print_place + print_size * i in
+    let f = print_fields_of a.prints.now in
+    let before = c.loop-i.invariant in
+    record {
+      long = search rules;
+      written =
+          c.put_print.ensures
+          ∙ put-each (f i) c.loop-i.buf at (omega (arith, before.long))
+          ∙ stamped-more a.buf.now print_place f print_size (λ j. refl) c.loop-i.buf i at (omega arith) (omega (arith, before.long))
+          before.written;
+    }

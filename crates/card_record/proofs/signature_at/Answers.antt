@@ -19,4 +19,4 @@ returns c =
     c.prints_at-prints.ensures
     ∙ ap (λ (k : ℕ). tabulate (signature_place (values_at s 0 (signature_widths k)) k) places) (c.levels.ensures ∙ ap levels m)
     in
-    λ i. record { length = m i; key = c.key_at-key.ensures i; prints = prints i }
+    λ i. record { length = m i; key = c.key_at.ensures i; prints = prints i }
