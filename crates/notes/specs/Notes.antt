@@ -1,10 +1,8 @@
 -- What bytes have to report is noted in a lent list of numbers, as long as the list has room for it.
-use Rattle.std.specs.Prelude.{ℕ, ◌+◌, ◌*◌, Bool, cond, take, leb}
+use Rattle.std.specs.Prelude.{ℕ, ◌+◌, ◌*◌, Bool, cond, take, leb, Option, Some, None}
 use mathlib.Core.List.{List, [], ◌∷◌, ◌++◌, flat_map}
 use Rattle.stage.specs.declared.Progression.{Progression}
 use Rattle.stage.specs.Stages.{stage_count}
-use Rattle.walk.specs.declared.Ring.{Ring}
-use Rattle.walk.specs.declared.Ring.TheVariants.{Silent, At}
 use Rattle.walk.specs.declared.Answer.{Answer}
 
 -- A note is five numbers: its kind, t, and three numbers more.
@@ -20,9 +18,9 @@ abbrev pub set_note : ℕ → Progression → List ℕ
 set_note t x = 1 ∷ t ∷ x.first ∷ x.step ∷ x.many ∷ []
 
 -- The note of a ring, and none where no start rang.
-abbrev pub ring_notes : ℕ → Ring → List ℕ
-ring_notes t Silent = []
-ring_notes t (At start) = ring_note t start
+abbrev pub ring_notes : ℕ → Option ℕ → List ℕ
+ring_notes t None = []
+ring_notes t (Some start) = ring_note t start
 
 -- The notes of the answer to byte t: the ring first, then the sets, which are the first `asides` of those in the answer, in order.
 unfoldable pub notes_of : ℕ → Answer → List ℕ

@@ -1,13 +1,13 @@
 // What an answer has to report, noted in a lent list of numbers.
 #![tactic(auto)]
 
-ghost use Rattle.std.specs.Prelude.{◌≡◌, ◌∷◌, [], ◌+◌, ◌≤◌, min, length};
+ghost use Rattle.std.specs.Prelude.{◌≡◌, ◌+◌, ◌*◌, ◌≤◌, length};
+ghost use mathlib.Core.List.{flat_map};
 ghost use Rattle.lists.specs.Stored.{Stored};
-ghost use Rattle.stage.specs.Stages.{stage_count};
-ghost use Rattle.notes.specs.Notes.{note_size, ring_notes, note_room, room_for, notes_within};
+ghost use Rattle.notes.specs.Notes.{note_size, ring_notes, set_note, note_room, room_for, notes_within};
 
 use stage::{Progression, STAGES};
-use walk::{Answer, Ring};
+use walk::Answer;
 
 // The numbers of a note: its kind, t, and three numbers more. Kind 0 is a ring, with its start; 1 is a set set aside, with first, step and many.
 pub const NOTE: usize = 5;
@@ -15,54 +15,47 @@ pub const NOTE: usize = 5;
 // The room that a list must have for the notes of one byte.
 pub const NOTE_ROOM: usize = NOTE * (STAGES + 1);
 
-// A note at a place of the list: a set with its kind.
-fn put_note(notes: &mut [u64], at: usize, kind: u64, t: u64, set: Progression) -> usize
+// A note at a place of the list, and the place behind it.
+fn put_note(notes: &mut [u64], at: usize, note: [u64; NOTE]) -> usize
     requires { at + note_size ≤ length notes.old }
-    ensures { Stored notes.old at (kind ∷ t ∷ set.first ∷ set.step ∷ set.many ∷ []) note_size result notes.new }
+    ensures { Stored notes.old at note note_size result notes.new }
 {
-    notes[at] = kind;
-    notes[at + 1] = t;
-    notes[at + 2] = set.first;
-    notes[at + 3] = set.step as u64;
-    notes[at + 4] = set.many as u64;
+    notes[at..at + NOTE].copy_from_slice(&note);
     at + NOTE
 }
 
 // The note of a ring, if a start rang.
-fn put_ring(notes: &mut [u64], at: usize, t: u64, ring: Ring) -> usize
+fn put_ring(notes: &mut [u64], at: usize, t: u64, ring: Option<u64>) -> usize
     requires { at + note_size ≤ length notes.old }
     ensures { Stored notes.old at (ring_notes t ring) note_size result notes.new }
 {
-    if let Ring::At(start) = ring {
-        let lone = Progression {
-            first: start,
-            step: 0,
-            many: 0,
-        };
-        return put_note(notes, at, 0, t, lone);
+    match ring {
+        Some(start) => put_note(notes, at, [0, t, start, 0, 0]),
+        None => at,
     }
-    at
 }
 
-// How many sets of an answer count: there is a place for one of each stage.
-fn counted(asides: u32) -> usize
-    ensures { result ≡ min asides stage_count }
+// The notes of sets, one behind another.
+fn put_sets(notes: &mut [u64], at: usize, t: u64, sets: &[Progression]) -> usize
+    requires { at + note_size * length sets.now ≤ length notes.old }
+    ensures { Stored notes.old at (flat_map (set_note t) sets.now) (note_size * length sets.now) result notes.new }
 {
-    let n = asides as usize;
-    if n < STAGES {
-        return n;
+    let mut next = at;
+    for set in sets {
+        next = put_note(
+            notes,
+            next,
+            [1, t, set.first, set.step as u64, set.many as u64],
+        );
     }
-    STAGES
+    next
 }
 
 // Whether a list of so many numbers has room for the notes of one byte from a place on.
 fn has_room(size: usize, at: usize) -> bool
     ensures { result ≡ room_for size at }
 {
-    if size < NOTE_ROOM {
-        return false;
-    }
-    at <= size - NOTE_ROOM
+    NOTE_ROOM <= size && at <= size - NOTE_ROOM
 }
 
 // The notes of the answer to byte t, at a place of the list, and the place behind them: nothing is noted where there is no room for the notes of one
@@ -73,13 +66,6 @@ pub fn put_answer(notes: &mut [u64], at: usize, t: u64, answer: Answer) -> usize
     if !has_room(notes.len(), at) {
         return at;
     }
-    let ring = answer.ring;
-    let mut next = put_ring(notes, at, t, ring);
-    let asides = counted(answer.asides);
-    let mut i: usize = 0;
-    while i < asides {
-        next = put_note(notes, next, 1, t, answer.sets[i]);
-        i = i + 1;
-    }
-    next
+    let next = put_ring(notes, at, t, answer.ring);
+    put_sets(notes, next, t, answer.set_asides())
 }
