@@ -21,10 +21,10 @@ use Rattle.ladder.proofs.Even.{after-even}
 use Rattle.ladder.proofs.Gaps.{after-alike}
 use Rattle.signature.specs.declared.Signature.{Signature}
 use Rattle.signature.specs.Signature.{signature_fits}
-use Rattle.stage.specs.Stage.{max_taken}
+use Rattle.stage.specs.Stage.{max_taken, next_mark}
 use Rattle.stage.specs.Stages.{stage_count, stage_at, stages_of}
 use Rattle.stage.proofs.Stages.{stages-same, whole_of, stage-of}
-use Rattle.walk.specs.Walk.{next_mark, walked_from}
+use Rattle.walk.specs.Walk.{walked_from}
 use Rattle.matcher.specs.Stroke.{walked, stroke_refusal, stroke_answer}
 use Rattle.refinement.specs.Refinement.{card_tests, mark_in, summary, watch_of, Refines}
 use Rattle.signature.proofs.Card.{SoundCard, sound-card}

@@ -1,6 +1,6 @@
 -- What a watch stores of a history, and how its answers read as those of the ladder with unlimited lists.
-use Rattle.std.specs.Prelude.{ℕ, suc, ◌+◌, ◌-◌, ◌≡◌, List, [], ◌∷◌, ◌++◌, map, length, take, get_or}
-use Rattle.std.proofs.Math.Option.{Option, none, some}
+use Rattle.std.specs.Prelude.{ℕ, suc, ◌+◌, ◌-◌, ◌≡◌, Option, None, Some, List, [], ◌∷◌, ◌++◌, map, length, take, get_or}
+use Rattle.std.proofs.Math.Option as math
 use Rattle.fingerprint.specs.declared.Key.{Key}
 use Rattle.fingerprint.specs.Fingerprint.{same, empty, fp, agree_under}
 use Rattle.ladder.specs.Prefix.{block}
@@ -9,8 +9,6 @@ use Rattle.signature.specs.declared.Signature.{Signature}
 use Rattle.stage.specs.declared.Mark.{Mark}
 use Rattle.stage.specs.declared.Stage.{Stage}
 use Rattle.matcher.specs.declared.Matcher.{Matcher}
-use Rattle.walk.specs.declared.Ring.{Ring}
-use Rattle.walk.specs.declared.Ring.TheVariants.{Silent, At}
 use Rattle.stage.specs.declared.Progression.{Progression}
 use Rattle.walk.specs.declared.Answer.{Answer}
 use Rattle.stage.specs.Stages.{stages_of}
@@ -57,9 +55,9 @@ watch_of card h =
     }
 
 -- "Whether a start rang, and which": document 01's value for every case.
-abbrev pub read_ring : Ring → Option ℕ
-read_ring Silent = none
-read_ring (At start) = some start
+abbrev pub read_ring : Option ℕ → math.Option ℕ
+read_ring None = math.none
+read_ring (Some start) = math.some start
 
 abbrev pub read_set : Progression → ladder.Progression
 read_set x = record { first = x.first; step = x.step; many = x.many }
