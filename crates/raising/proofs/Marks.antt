@@ -8,8 +8,7 @@ use Rattle.fingerprint.specs.Fingerprint.{rest}
 use Rattle.fingerprint.proofs.Behind.{rest-behind, joined-behind, pushed-behind}
 use Rattle.stage.specs.declared.Mark.{Mark}
 use Rattle.stage.specs.declared.Gap.{Gap}
-use Rattle.stage.specs.Stage.{gap_to, forward}
-use Rattle.walk.specs.Walk.{next_mark}
+use Rattle.stage.specs.Stage.{gap_to, forward, next_mark}
 use Rattle.raising.specs.Raised.{raised_mark}
 
 -- a mark and a gap are their fields

@@ -18,10 +18,9 @@ use Rattle.stage.specs.declared.Mark.{Mark}
 use Rattle.stage.specs.declared.Stage.{Stage}
 use Rattle.matcher.specs.declared.Matcher.{Matcher}
 use Rattle.walk.specs.declared.Round.{Round}
-use Rattle.stage.specs.Stage.{max_taken}
+use Rattle.stage.specs.Stage.{max_taken, next_mark}
 use Rattle.stage.specs.Stages.{stage_at, no_stages}
 use Rattle.matcher.specs.Matcher.{matcher_fits, blank}
-use Rattle.walk.specs.Walk.{next_mark}
 use Rattle.matcher.specs.Stroke.{walked, stroke_refusal, stroke_answer, after_stroke}
 use Rattle.stage.proofs.Fit.{Fit, idle, single, several}
 use Rattle.stage.proofs.Follows.{Follows, follows-alone}

@@ -1,14 +1,13 @@
 -- A watch that was begun behind some bytes of a longer stream, as that stream's places and fingerprints have it: its starts are raised by
 -- the number of those bytes, and their fingerprints are behind those bytes' own.
-use Rattle.std.specs.Prelude.{ℕ, ◌+◌, cond, ◌++◌, map, eqb, take, drop}
+use Rattle.std.specs.Prelude.{ℕ, ◌+◌, cond, Option, ◌++◌, map, eqb, take, drop}
+use Rattle.std.specs.Option.{option_map}
 use Rattle.fingerprint.specs.declared.Key.{Key}
 use Rattle.fingerprint.specs.Fingerprint.{joined}
 use Rattle.stage.specs.declared.Mark.{Mark}
 use Rattle.stage.specs.declared.Stage.{Stage}
 use Rattle.matcher.specs.declared.Matcher.{Matcher}
 use Rattle.walk.specs.declared.Answer.{Answer}
-use Rattle.walk.specs.declared.Ring.{Ring}
-use Rattle.walk.specs.declared.Ring.TheVariants.{Silent, At}
 use Rattle.stage.specs.declared.Progression.{Progression}
 
 -- The mark behind the base and then the bytes before the mark.
@@ -28,9 +27,8 @@ raised_watch base w =
       stages = map (raised_stage w.signature.key base) w.stages;
     }
 
-abbrev pub raised_ring : ℕ → Ring → Ring
-raised_ring c Silent = Silent
-raised_ring c (At start) = At (c + start)
+abbrev pub raised_ring : ℕ → Option ℕ → Option ℕ
+raised_ring c ring = option_map (λ start. c + start) ring
 
 abbrev pub raised_set : ℕ → Progression → Progression
 raised_set c x = record { first = c + x.first; step = x.step; many = x.many }
