@@ -1,14 +1,12 @@
 -- M1 to M12: document 01's marked edges as one list of cases about the definitions ("Edges, the marked (M) ones proved").
-use Rattle.std.specs.Prelude.{ℕ, suc, cond, List, [], ◌∷◌, eqb}
-use Rattle.std.proofs.Math.Option.{Option, none, some}
+use Rattle.std.specs.Prelude.{ℕ, suc, cond, Option, None, Some, List, [], ◌∷◌, eqb}
+use Rattle.std.proofs.Math.Option as math
 use Rattle.fingerprint.specs.declared.Key.{Key}
 use Rattle.fingerprint.specs.Fingerprint.{fp, same, numbered_key, print_number}
 use Rattle.ladder.specs.Prefix.{levels}
 use Rattle.ladder.specs.Ladder.{tests_of, answer_at}
 use Rattle.signature.specs.Signature.{signature_of}
 use Rattle.signature.specs.Calls.{begin_refusal}
-use Rattle.walk.specs.declared.Ring.{Ring}
-use Rattle.walk.specs.declared.Ring.TheVariants.{Silent, At}
 use Rattle.matcher.specs.declared.Matcher.{Matcher}
 use Rattle.matcher.specs.Matcher.{fresh}
 use Rattle.matcher.specs.Stroke.{stroke_answer, after_stroke}
@@ -40,18 +38,18 @@ abbrev pub m12 : List ℕ
 m12 = 1 ∷ 1 ∷ 0 ∷ 3 ∷ []
 
 -- The ring as a number: 0 where no start rang, and start + 1 where one did.
-abbrev pub ring_number : Option ℕ → ℕ
-ring_number none = 0
-ring_number (some start) = suc start
+abbrev pub ring_number : math.Option ℕ → ℕ
+ring_number math.none = 0
+ring_number (math.some start) = suc start
 
 -- The ring at byte t of a stream, with p as passage and blocks compared by their fingerprints under a key.
 abbrev pub ring_at : Key → List ℕ → List ℕ → ℕ → ℕ
 ring_at k p stream t = ring_number (answer_at (tests_of (λ u v. same (fp k u) (fp k v)) p) stream t).ring
 
 -- The same of the ring that a stroke answers.
-abbrev pub stroke_number : Ring → ℕ
-stroke_number Silent = 0
-stroke_number (At start) = suc start
+abbrev pub stroke_number : Option ℕ → ℕ
+stroke_number None = 0
+stroke_number (Some start) = suc start
 
 -- The ring at the last of these bytes, each brought to a watch by a stroke.
 unfoldable pub struck_ring : Matcher → List ℕ → ℕ
