@@ -2,16 +2,20 @@
 -- Assumes nothing.
 use Prim.Native.Nat.{ℕ, suc, ◌+◌, ◌-◌, ◌*◌, ◌^◌, ◌≤◌, ◌<◌}
 use mathlib.Core.Path.{◌≡◌, refl, ◌∙◌}
-use mathlib.Core.Bool.{false, and-false}
-use mathlib.Core.List.{List}
+use mathlib.Core.Bool.{false, ◌&&◌, and-false}
+use mathlib.Core.List.{List, [], ◌∷◌}
 use native.Mathlib.Nat.{pow-suc, pow-le-pow_right}
 use native.Mathlib.Numerals.{add-one}
 use native.Mathlib.Omega.{arith}
 use lib.ListN.{length, get_or, drop, drop_of_length-le}
 use lib.Seq.{drop-cons}
-use borrow.Author.Tests.{le-leb, lt-leb}
-use Rattle.std.proofs.Common.{None, Some}
-use Rattle.decimal.specs.Decimal.{is_digit, parsed_from, parsed_within}
+use lib.Dec.{leb}
+use borrow.Author.Tests.{le-leb, lt-leb, leb-true}
+use Rattle.std.proofs.Common.{Option, None, Some, IfSome}
+use Rattle.std.proofs.lemmas.Option.{none-some}
+use Rattle.lists.proofs.Laws.{and_right}
+use Rattle.lists.proofs.Cases.{by-test}
+use Rattle.decimal.specs.Decimal.{is_digit, parsed_from, parsed_within, most_read, parsed}
 
 -- a character below `0` or above `9` is no digit
 pub low : (c : ℕ) → c < 48 → is_digit c ≡ false
@@ -72,3 +76,38 @@ module _ (most : ℕ) (text : List ℕ) where
   pub good_length : 1 ≤ length text → length text ≤ most → parsed_within most text ≡ parsed_from 0 text
   unfolding parsed_within
   good_length a b = rw (le-leb 1 (length text) a, le-leb (length text) most b)
+
+-- so few digits make a small number
+from-small :
+    (text : List ℕ) (value read n : ℕ)
+    → value < 10 ^ read
+    → read + length text ≤ most_read
+    → parsed_from value text ≡ Some n
+    → n < 10 ^ most_read
+unfolding parsed_from
+from-small [] value read n small few e =
+    let up : 10 ^ read ≤ 10 ^ most_read = pow-le-pow_right {n = 10} (omega arith) {i = read} {j = most_read} (omega arith) in
+    let same : value ≡ n = cc in
+    omega (arith, up)
+from-small (c ∷ text) value read n small few e =
+    by-test (is_digit c)
+    (λ d.
+    let high : c ≤ 57 = leb-true c 57 (and_right (leb 48 c) (leb c 57) d) in
+    from-small text (10 * value + (c - 48)) (suc read) n (rw pow-suc (omega arith)) (omega arith) (rw d at e))
+    (λ d. let z : None ≡ Some n = rw d at e in absurd (none-some n z))
+
+parsed-small : (text : List ℕ) (n : ℕ) → parsed text ≡ Some n → n < 10 ^ most_read
+unfolding parsed_within
+parsed-small text n e =
+    by-test (leb 1 (length text) && leb (length text) most_read)
+    (λ h.
+    let few : length text ≤ most_read = leb-true (length text) most_read (and_right (leb 1 (length text)) _ h) in
+    from-small text 0 0 n (omega arith) (omega (arith, few)) (rw h at e))
+    (λ h. let z : None ≡ Some n = rw h at e in absurd (none-some n z))
+
+pub parsed-below : (text : List ℕ) → IfSome (parsed text) (λ n. n < 10 ^ most_read)
+parsed-below text = go (parsed text) refl
+  where
+    go : (o : Option ℕ) → parsed text ≡ o → IfSome o (λ n. n < 10 ^ most_read)
+    go None e = tt
+    go (Some n) e = parsed-small text n e
