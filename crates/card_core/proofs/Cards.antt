@@ -17,11 +17,9 @@ use Rattle.card_core.specs.Card.{make_refusal, made_signature, card_refusal, car
 module _ (key : Key) (passage entry : List ℕ) where
   pub not_made :
       (make_refusal key passage ≡ 0 → ⊥)
-      → (make_refusal key passage ≡ card_refusal key passage entry)
-      × (0 ≡ card_used key passage entry)
-      × (entry ≡ card_buffer key passage entry)
-  unfolding card_used card_buffer
-  not_made n = let e = ne_eqb (make_refusal key passage) 0 n in rw (e, e) (refl, refl, refl)
+      → (make_refusal key passage ≡ card_refusal key passage entry) × (entry ≡ card_buffer key passage entry)
+  unfolding card_buffer
+  not_made n = let e = ne_eqb (make_refusal key passage) 0 n in rw (e, e) (refl, refl)
 
   pub made :
       (s : Signature)

@@ -10,13 +10,10 @@ use native.Mathlib.Omega.{arith}
 use lib.ListN.{length, get_or, take}
 use lib.Seq.{take-suc, length-take-le}
 use borrow.Author.Tests.{lt-ltb, ne_eqb}
-use Rattle.refusal.specs.declared.Verdict.{Verdict}
-use Rattle.refusal.specs.declared.Verdict.TheVariants.{Accepted}
-use Rattle.refusal.specs.Number.{number}
 use Rattle.fingerprint.specs.declared.Key.{Key}
 use Rattle.signature.specs.declared.Builder.{Builder}
-use Rattle.signature.specs.Signature.{max_length, no_signature, signature_of}
-use Rattle.signature.specs.Calls.{begin_refusal, begun, after_push, finish_refusal, finished}
+use Rattle.signature.specs.Signature.{max_length, signature_of}
+use Rattle.signature.specs.Calls.{begin_refusal, begun, push_refusal, after_push, finish_refusal, finished}
 use Rattle.signature.specs.Made.{Making, begins, takes}
 use Rattle.card_core.specs.Card.{overlong, make_refusal, made_signature}
 use Rattle.made_from.proofs.Calls.{length-limits, begin-tells, push-accepted, finish-accepted}
@@ -40,14 +37,14 @@ pub record Began (n : ℕ) (key : Key) (b : Builder) : Type 0 where
   pub same_key : b.key ≡ key
   pub making : Making n b.key [] b
 
-module _ (n : ℕ) (key : Key) (v : Verdict) (m : ℕ) (length-told : m ≡ min n overlong) (number-told : number v ≡ begin_refusal m key) where
-  pub begin-number : number v ≡ begin_refusal n key
+module _ (n : ℕ) (key : Key) (number m : ℕ) (length-told : m ≡ min n overlong) (number-told : number ≡ begin_refusal m key) where
+  pub begin-number : number ≡ begin_refusal n key
   begin-number = number-told ∙ ap (λ k. begin_refusal k key) length-told ∙ told-refusal n key
 
-  pub began : (b : Builder) → b ≡ begun m key → v ≡ Accepted → Began n key b
+  pub began : (b : Builder) → b ≡ begun m key → number ≡ 0 → Began n key b
   unfolding begun
   began b given accepted =
-      let ok = sym begin-number ∙ ap number accepted in
+      let ok = sym begin-number ∙ accepted in
       let same : b ≡ begun n key = given ∙ ap (λ k. begun k key) (length-told ∙ accepted-length n key ok) in
       let key-same : b.key ≡ key = rw (same, ok, begun) in
       record {
@@ -57,18 +54,20 @@ module _ (n : ℕ) (key : Key) (v : Verdict) (m : ℕ) (length-told : m ≡ min 
       }
 
 module _ (key : Key) (p : List ℕ) where
-  -- one byte more is taken
+  -- one byte more is accepted, and taken
+  pub accepted : (i : ℕ) (b : Builder) → Making (length p) key (take i p) b → i < length p → push_refusal b ≡ 0
+  accepted i b d l =
+      let s = making-state d in
+      let size = length-take-le i p (omega arith) in
+      push-accepted b s.fits (rw s.state (omega arith))
+
   pub more :
       (i : ℕ) (b : Builder)
       → Making (length p) key (take i p) b
       → i < length p
       → get_or p i 0 < 256
       → Making (length p) key (take (i + 1) p) (after_push b (get_or p i 0))
-  more i b d l h =
-      let s = making-state d in
-      let size = length-take-le i p (omega arith) in
-      let e = push-accepted b s.fits (rw s.state (omega arith)) in
-      rw (add-one, take-suc p i 0 l) (takes (get_or p i 0) h d e)
+  more i b d l h = rw (add-one, take-suc p i 0 l) (takes (get_or p i 0) h d (accepted i b d l))
 
   pub given : (b : Builder) → Making (length p) key p b → (finish_refusal b ≡ 0) × (finished b ≡ signature_of key p)
   given b d =
@@ -76,11 +75,7 @@ module _ (key : Key) (p : List ℕ) where
       let e = finish-accepted b s.fits (rw s.state (omega arith)) in
       (e, (made-card (record { builder = b; making = d; accepted = e; given = refl })).state)
 
--- the passage's own card, or none where its begin is refused
-pub made_none : (key : Key) (p : List ℕ) → (make_refusal key p ≡ 0 → ⊥) → made_signature key p ≡ no_signature
-unfolding made_signature
-made_none key p n = rw (ne_eqb (make_refusal key p) 0 n)
-
+-- the passage's own card
 pub made-own : (key : Key) (p : List ℕ) → make_refusal key p ≡ 0 → made_signature key p ≡ signature_of key p
 unfolding made_signature
 made-own key p e = rw e
