@@ -3,30 +3,28 @@
 use Prim.Native.Nat.{ℕ, suc, ◌+◌, ◌*◌, ◌/◌, ◌≤◌, ◌<◌}
 use mathlib.Core.Path.{◌≡◌, refl, sym, ◌∙◌, ap}
 use mathlib.Core.List.{List, [], ◌∷◌, ◌++◌, flat_map, append-nil, append_assoc}
-use native.Mathlib.Numerals.{add-one}
 use native.Mathlib.Omega.{arith}
-use lib.ListN.{length, take, drop, get_or, length-append, length-drop}
-use lib.Seq.{drop-cons, sets-eq}
+use lib.ListN.{length, take, drop, get_or, length-append}
+use lib.Seq.{sets-eq}
 use borrow.Author.Tests.{le-leb, lt-leb}
+use mathlib.Core.Bool.{cond}
 use lib.Dec.{eqb}
 use Rattle.lists.specs.Stored.{Stored}
 use Rattle.lists.proofs.Cases.{by-test}
 use Rattle.lists.proofs.Storing.{nothing, run, at_most}
 use Rattle.stage.specs.declared.Progression.{Progression}
-use Rattle.walk.specs.declared.Ring.{Ring}
-use Rattle.walk.specs.declared.Ring.TheVariants.{Silent, At}
+use Rattle.std.proofs.Common.{Option, None, Some}
 use Rattle.walk.specs.declared.Answer.{Answer}
 use Rattle.notes.specs.Notes.{note_size, set_note, ring_notes, notes_of}
 use Rattle.decimal.specs.Decimal.{put_limit}
-use Rattle.report_lines.specs.declared.Put.TheVariants.{Full, Next}
 use Rattle.report_lines.specs.Sizes.{most_line}
-use Rattle.report_lines.specs.Lines.{line_a, ring_lines, report_lines, note_line, note_lines, notes_placed, notes_written}
+use Rattle.report_lines.specs.Lines.{line, line_a, ring_lines, report_lines, note_line, note_lines, notes_placed, notes_written}
 use Rattle.report_lines.proofs.Room.{aside-length, ring-length}
 
-ring-lines : (t : ℕ) (ring : Ring) (notes : List ℕ) → note_lines (ring_notes t ring ++ notes) ≡ ring_lines t ring ++ note_lines notes
+ring-lines : (t : ℕ) (ring : Option ℕ) (notes : List ℕ) → note_lines (ring_notes t ring ++ notes) ≡ ring_lines t ring ++ note_lines notes
 unfolding note_lines
-ring-lines t Silent notes = refl
-ring-lines t (At start) notes = refl
+ring-lines t None notes = refl
+ring-lines t (Some start) notes = refl
 
 set_lines :
     (t : ℕ) (sets : List Progression) (notes : List ℕ)
@@ -65,87 +63,77 @@ few-lines (a ∷ b ∷ c ∷ d ∷ []) l = refl
 few-lines (a ∷ b ∷ c ∷ d ∷ e ∷ notes) l = absurd (omega arith)
 
 -- one note more
-first-line :
-    (kind t first step many : ℕ) (notes : List ℕ)
-    → note_lines (kind ∷ t ∷ first ∷ step ∷ many ∷ notes) ≡ note_line kind t first step many ++ note_lines notes
+first-line : (note rest : List ℕ) → length note ≡ note_size → note_lines (note ++ rest) ≡ note_lines note ++ note_lines rest
 unfolding note_lines
-first-line kind t first step many notes = refl
+first-line [] rest l = absurd (omega arith)
+first-line (a ∷ []) rest l = absurd (omega arith)
+first-line (a ∷ b ∷ []) rest l = absurd (omega arith)
+first-line (a ∷ b ∷ c ∷ []) rest l = absurd (omega arith)
+first-line (a ∷ b ∷ c ∷ d ∷ []) rest l = absurd (omega arith)
+first-line (a ∷ b ∷ c ∷ d ∷ e ∷ []) rest l = rw append-nil
+first-line (a ∷ b ∷ c ∷ d ∷ e ∷ f ∷ note) rest l = absurd (omega arith)
 
-here : (notes : List ℕ) (n : ℕ) → n < length notes → drop n notes ≡ get_or notes n 0 ∷ drop (n + 1) notes
-here notes n l = drop-cons notes n 0 l ∙ rw add-one
+-- the line of one note: its kind says which, and the numbers behind it are the line's, two of them or all
+pub lone-line :
+    (note : List ℕ)
+    → length note ≡ note_size
+    → note_lines note ≡ cond (eqb (get_or note 0 0) 0) (line 82 (take 2 (drop 1 note))) (line 65 (drop 1 note))
+unfolding note_lines
+lone-line [] l = absurd (omega arith)
+lone-line (a ∷ []) l = absurd (omega arith)
+lone-line (a ∷ b ∷ []) l = absurd (omega arith)
+lone-line (a ∷ b ∷ c ∷ []) l = absurd (omega arith)
+lone-line (a ∷ b ∷ c ∷ d ∷ []) l = absurd (omega arith)
+lone-line (a ∷ b ∷ c ∷ d ∷ e ∷ []) l = append-nil _
+lone-line (a ∷ b ∷ c ∷ d ∷ e ∷ f ∷ note) l = absurd (omega arith)
 
-next-line :
-    (notes : List ℕ) (n : ℕ)
-    → n + note_size ≤ length notes
-    → note_lines (drop n notes)
-    ≡ note_line (get_or notes n 0) (get_or notes (n + 1) 0) (get_or notes (n + 2) 0) (get_or notes (n + 3) 0) (get_or notes (n + 4) 0)
-    ++ note_lines (drop (n + note_size) notes)
-next-line notes n l =
-    let second : n + 1 + 1 ≡ n + 2 = omega arith in
-    let third : n + 2 + 1 ≡ n + 3 = omega arith in
-    let fourth : n + 3 + 1 ≡ n + 4 = omega arith in
-    let fifth : n + 4 + 1 ≡ n + note_size = omega arith in
-    rw (
-      here notes n (omega arith),
-      here notes (n + 1) (omega arith),
-      second,
-      here notes (n + 2) (omega arith),
-      third,
-      here notes (n + 3) (omega arith),
-      fourth,
-      here notes (n + 4) (omega arith),
-      fifth,
-    )
-    (first-line _ _ _ _ _ _)
-
--- Note after note: the lines of the first i notes stand in the buffer, and those of the others come behind them.
-pub record Putting (entry : List ℕ) (at : ℕ) (notes : List ℕ) (i next : ℕ) (exit : List ℕ) : Type 0 where
+-- Note after note: the lines of the first notes stand in the buffer, and those of the rest come behind them.
+pub record Putting (entry : List ℕ) (at : ℕ) (notes rest : List ℕ) (next : ℕ) (exit : List ℕ) : Type 0 where
+  pub count : ℕ
+  pub passed : note_size * count + length rest ≡ length notes
   pub said : List ℕ
-  pub stored : Stored entry at said (most_line * i) next exit
-  pub same : note_lines notes ≡ said ++ note_lines (drop (note_size * i) notes)
+  pub stored : Stored entry at said (most_line * count) next exit
+  pub same : note_lines notes ≡ said ++ note_lines rest
 
-pub put-none : (entry : List ℕ) (at : ℕ) (notes : List ℕ) → Putting entry at notes 0 at entry
-put-none entry at notes = record { said = []; stored = nothing entry at; same = refl }
+pub put-none : (entry : List ℕ) (at : ℕ) (notes : List ℕ) → Putting entry at notes notes at entry
+put-none entry at notes = record { count = 0; passed = omega arith; said = []; stored = nothing entry at; same = refl }
 
-module _ (entry : List ℕ) (at : ℕ) (notes : List ℕ) (i next : ℕ) (exit : List ℕ) (q : Putting entry at notes i next exit) where
+module _ (entry : List ℕ) (at : ℕ) (notes rest : List ℕ) (next : ℕ) (exit : List ℕ) (q : Putting entry at notes rest next exit) where
   pub put-more :
-      (r : ℕ) (left : List ℕ)
-      → note_size * i + note_size ≤ length notes
-      → (let n : ℕ = note_size * i in
-      Stored exit next (note_line (get_or notes n 0) (get_or notes (n + 1) 0) (get_or notes (n + 2) 0) (get_or notes (n + 3) 0) (get_or notes (n + 4) 0))
-      most_line r left)
-      → Putting entry at notes (i + 1) r left
-  put-more r left l s =
-      let n : ℕ = note_size * i in
-      let line : List ℕ =
-      note_line (get_or notes n 0) (get_or notes (n + 1) 0) (get_or notes (n + 2) 0) (get_or notes (n + 3) 0) (get_or notes (n + 4) 0) in
-      let on : note_size * i + note_size ≡ note_size * (i + 1) = omega arith in
+      (note later : List ℕ) (r : ℕ) (left : List ℕ)
+      → rest ≡ note ++ later
+      → length note ≡ note_size
+      → Stored exit next (note_lines note) most_line r left
+      → Putting entry at notes later r left
+  put-more note later r left e l s =
       record {
-        said = q.said ++ line;
+        count = q.count + 1;
+        passed = omega (arith, q.passed, ap length e, length-append note later);
+        said = q.said ++ note_lines note;
         stored = at_most (omega arith) (run q.stored s);
         same =
             q.same
-            ∙ ap (λ k. q.said ++ k) (next-line notes n l)
-            ∙ rw on (sym (append_assoc q.said line (note_lines (drop (note_size * (i + 1)) notes))));
+            ∙ ap (λ k. q.said ++ note_lines k) e
+            ∙ ap (λ k. q.said ++ k) (first-line note later l)
+            ∙ sym (append_assoc q.said (note_lines note) (note_lines later));
       }
 
   -- all of them
   pub put_all :
-      length notes / note_size ≡ i
+      length rest < note_size
       → at + most_line * (length notes / note_size) ≤ length entry
-      → (Next next ≡ notes_placed entry at notes) × (exit ≡ notes_written entry at notes)
+      → (Some next ≡ notes_placed entry at notes) × (exit ≡ notes_written entry at notes)
   unfolding notes_placed notes_written
   put_all e l =
-      let none = few-lines (drop (note_size * i) notes) (rw length-drop (omega arith)) in
-      let all : note_lines notes ≡ q.said = q.same ∙ rw (none, append-nil) in
+      let all : note_lines notes ≡ q.said = q.same ∙ rw (few-lines rest e, append-nil) in
       rw (le-leb (at + most_line * (length notes / note_size)) (length entry) l, all)
-      (ap Next q.stored.behind, q.stored.buffer ∙ sets-eq q.said entry at (omega (arith, q.stored.within)))
+      (ap Some q.stored.behind, q.stored.buffer ∙ sets-eq q.said entry at (omega (arith, q.passed, q.stored.within)))
 
 -- without room nothing is put
 pub put-nothing :
     (entry : List ℕ) (at : ℕ) (notes : List ℕ)
     → length entry < at + most_line * (length notes / note_size)
-    → (Full ≡ notes_placed entry at notes) × (entry ≡ notes_written entry at notes)
+    → (None ≡ notes_placed entry at notes) × (entry ≡ notes_written entry at notes)
 unfolding notes_placed notes_written
 put-nothing entry at notes l = rw (lt-leb (at + most_line * (length notes / note_size)) (length entry) l) (refl, refl)
 
@@ -159,7 +147,7 @@ note-length :
     → length (note_line kind t first step many) ≤ most_line
 note-length kind t first step many ht hf hs hm =
     by-test (eqb kind 0)
-    (λ e. rw e (ring-length t (At first) ht (λ start p. let z : start ≡ first = cc in rw z hf)))
+    (λ e. rw e (ring-length t (Some first) ht (λ start p. let z : start ≡ first = cc in rw z hf)))
     (λ e. rw e (aside-length t (record { first = first; step = step; many = many }) ht (record { first = hf; step = hs; many = hm })))
 
 -- Notes whose numbers can all be put have as many lines as there are notes, none longer than the longest.

@@ -9,12 +9,10 @@ use native.Mathlib.Omega.{arith}
 use lib.ListN.{length, take, get_or, length-append, length-take, length-drop}
 use lib.Seq.{get_or-take}
 use borrow.Author.Tests.{le-leb, lt-leb}
-use Rattle.walk.specs.declared.Ring.{Ring}
-use Rattle.walk.specs.declared.Ring.TheVariants.{Silent, At}
+use Rattle.std.proofs.Common.{Option, None, Some}
 use Rattle.stage.specs.declared.Progression.{Progression}
 use Rattle.walk.specs.declared.Answer.{Answer}
 use Rattle.stage.specs.Stages.{stage_count}
-use Rattle.report_lines.specs.declared.Put.TheVariants.{Next}
 use Rattle.report_lines.specs.Sizes.{most_item, most_line}
 use Rattle.report_lines.specs.Lines.{item, line, line_a, line_x, ring_lines, report_lines, room, placed, written}
 use Rattle.decimal.specs.Decimal.{put_limit}
@@ -40,13 +38,13 @@ aside-length t a h n =
     (omega (arith, item-length t h, item-length a.first n.first, item-length a.step n.step, item-length a.many n.many))
 
 pub ring-length :
-    (t : ℕ) (ring : Ring)
+    (t : ℕ) (ring : Option ℕ)
     → t < put_limit
-    → ((start : ℕ) → ring ≡ At start → start < put_limit)
+    → ((start : ℕ) → ring ≡ Some start → start < put_limit)
     → length (ring_lines t ring) ≤ most_line
 unfolding line flat_map
-ring-length t Silent h k = omega arith
-ring-length t (At start) h k = simp length-append (omega (arith, item-length t h, item-length start (k start refl)))
+ring-length t None h k = omega arith
+ring-length t (Some start) h k = simp length-append (omega (arith, item-length t h, item-length start (k start refl)))
 
 pub refusal-length : (n : ℕ) → n < put_limit → length (line_x n) ≤ most_line
 unfolding line flat_map
@@ -63,7 +61,7 @@ flat_map-length f k d (e ∷ es) h =
 
 -- an answer as the matcher's type has it: at most one set for each place of a stage, and every number can be put
 pub record Narrow (answer : Answer) : Type 0 where
-  pub ring : (start : ℕ) → answer.ring ≡ At start → start < put_limit
+  pub ring : (start : ℕ) → answer.ring ≡ Some start → start < put_limit
   pub few : length answer.sets ≤ stage_count
   pub sets : (i : ℕ) → NarrowSet (get_or answer.sets i no_set)
 
@@ -79,7 +77,7 @@ report-fits t answer h n =
 -- the place behind the lines that a call put into a buffer of the same length lies within the buffer
 pub next-within :
     (entry exit : List ℕ) (at : ℕ) (lines : List ℕ) (next : ℕ)
-    → Next next ≡ placed entry at lines
+    → Some next ≡ placed entry at lines
     → exit ≡ written entry at lines
     → length exit ≡ length entry
     → next ≤ length entry

@@ -11,7 +11,7 @@ use Rattle.lists.specs.Stored.{Stored}
 use Rattle.decimal.specs.Decimal.{decimal, put_limit, most_put, place_behind, buffer_with}
 use Rattle.decimal.proofs.Digits.{put-length}
 use Rattle.decimal.proofs.Putting.{put-room}
-use Rattle.report_lines.specs.declared.Put.TheVariants.{Full, Next}
+use Rattle.std.proofs.Common.{None, Some}
 use Rattle.report_lines.specs.Lines.{room, placed, written}
 
 -- a number's digits
@@ -33,13 +33,13 @@ pub finish :
     → at + room ≤ length l
     → Stored l at xs a r l'
     → a ≤ room
-    → (Next r ≡ placed l at xs) × (l' ≡ written l at xs)
+    → (Some r ≡ placed l at xs) × (l' ≡ written l at xs)
 unfolding placed written
 finish {l} {at = at} {xs = xs} h p k =
     rw (le-leb (at + room) (length l) h)
-    (ap Next p.behind, p.buffer ∙ sets-eq xs l at (omega arith))
+    (ap Some p.behind, p.buffer ∙ sets-eq xs l at (omega arith))
 
 -- and without room nothing is stored
-pub refuse : (l : List ℕ) (at : ℕ) (xs : List ℕ) → length l < at + room → (Full ≡ placed l at xs) × (l ≡ written l at xs)
+pub refuse : (l : List ℕ) (at : ℕ) (xs : List ℕ) → length l < at + room → (None ≡ placed l at xs) × (l ≡ written l at xs)
 unfolding placed written
 refuse l at xs h = rw (lt-leb (at + room) (length l) h) (refl, refl)

@@ -1,15 +1,11 @@
 -- The lines of the printing program, as bytes (document 01, "The printing program"), and what a lent buffer holds once they are put into it.
-use Rattle.std.specs.Prelude.{ℕ, ◌+◌, ◌*◌, ◌/◌, Bool, cond, length, take, drop, leb, eqb}
+use Rattle.std.specs.Prelude.{ℕ, Option, None, Some, ◌+◌, ◌*◌, ◌/◌, Bool, cond, length, take, drop, leb, eqb}
 use mathlib.Core.List.{List, [], ◌∷◌, ◌++◌, flat_map}
 use Rattle.decimal.specs.Decimal.{decimal}
-use Rattle.walk.specs.declared.Ring.{Ring}
-use Rattle.walk.specs.declared.Ring.TheVariants.{Silent, At}
 use Rattle.stage.specs.declared.Progression.{Progression}
 use Rattle.walk.specs.declared.Answer.{Answer}
 use Rattle.notes.specs.Notes.{note_size}
 use Rattle.report_lines.specs.Sizes.{most_line}
-use Rattle.report_lines.specs.declared.Put.{Put}
-use Rattle.report_lines.specs.declared.Put.TheVariants.{Full, Next}
 
 -- "Printed numbers are decimal without leading zeros", and "one space parts the items": 32 is the space.
 abbrev pub item : ℕ → List ℕ
@@ -36,9 +32,9 @@ abbrev pub line_e : ℕ → ℕ → List ℕ
 line_e t total = line 69 (t ∷ total ∷ [])
 
 -- The line of a ring, and none where no start rang.
-abbrev pub ring_lines : ℕ → Ring → List ℕ
-ring_lines t Silent = []
-ring_lines t (At start) = line_r t start
+abbrev pub ring_lines : ℕ → Option ℕ → List ℕ
+ring_lines t None = []
+ring_lines t (Some start) = line_r t start
 
 -- What is printed of the answer to byte t: "At one byte, R stands before A." The sets are the first `asides` of those in the answer, in order.
 unfoldable pub report_lines : ℕ → Answer → List ℕ
@@ -65,9 +61,9 @@ room = 2048
 abbrev pub has_room : List ℕ → ℕ → Bool
 has_room buf at = leb (at + room) (length buf)
 
--- The place behind the lines, or that the buffer is full.
-unfoldable pub placed : List ℕ → ℕ → List ℕ → Put
-placed buf at lines = cond (has_room buf at) (Next (at + length lines)) Full
+-- The place behind the lines, and none where the buffer is full.
+unfoldable pub placed : List ℕ → ℕ → List ℕ → Option ℕ
+placed buf at lines = cond (has_room buf at) (Some (at + length lines)) None
 
 -- The buffer with the lines at their place, all else as it was, or as it was where it is full.
 unfoldable pub written : List ℕ → ℕ → List ℕ → List ℕ
@@ -77,9 +73,9 @@ written buf at lines = cond (has_room buf at) (take at buf ++ lines ++ drop (at 
 abbrev pub has_notes_room : List ℕ → ℕ → List ℕ → Bool
 has_notes_room buf at notes = leb (at + most_line * (length notes / note_size)) (length buf)
 
--- The place behind their lines, or that the buffer is full.
-unfoldable pub notes_placed : List ℕ → ℕ → List ℕ → Put
-notes_placed buf at notes = cond (has_notes_room buf at notes) (Next (at + length (note_lines notes))) Full
+-- The place behind their lines, and none where the buffer is full.
+unfoldable pub notes_placed : List ℕ → ℕ → List ℕ → Option ℕ
+notes_placed buf at notes = cond (has_notes_room buf at notes) (Some (at + length (note_lines notes))) None
 
 -- The buffer with their lines at their place, all else as it was, or as it was where it is full.
 unfoldable pub notes_written : List ℕ → ℕ → List ℕ → List ℕ

@@ -4,7 +4,7 @@ use lib.ListN.{length-set}
 use Rattle.report_lines.specs.Lines.{item}
 use Rattle.lists.specs.Stored.{Stored}
 use Rattle.report_lines.specs.Sizes.{most_item}
-use Rattle.lists.proofs.Storing.{one, run, same_size}
+use Rattle.lists.proofs.Storing.{one, run}
 use Rattle.report_lines.proofs.Storing.{number}
 use Rattle.report_lines.proofs.put_item.Goals as goal
 
