@@ -1,5 +1,5 @@
 -- A card's place in a rack: when it is free, all 0, or has a name; and the search for one (document 02, A.1).
-use Rattle.std.specs.Prelude.{ℕ, zero, suc, Bool, true, cond, not, ◌&&◌, List, [], get_or, eqb}
+use Rattle.std.specs.Prelude.{ℕ, zero, suc, Bool, true, cond, not, ◌&&◌, List, [], Option, None, Some, get_or, eqb, ltb}
 use Rattle.fingerprint.specs.declared.Key.{Key}
 use Rattle.fingerprint.specs.declared.Fingerprint.{Fingerprint}
 use Rattle.fingerprint.specs.Fingerprint.{key_fits, same_key, no_key, same, empty}
@@ -57,6 +57,10 @@ has_name name p = not (is_free p) && eqb p.name name
 unfoldable pub first_place : (Place → Bool) → List Place → ℕ → ℕ → ℕ
 first_place test places zero i = i
 first_place test places (suc n) i = cond (test (get_or places i nowhere)) i (first_place test places n (suc i))
+
+-- A place behind the last one is none of a rack's.
+abbrev pub in_rack : ℕ → Option ℕ
+in_rack i = cond (ltb i rack_places) (Some i) None
 
 abbrev pub place_of : ℕ → List Place → ℕ
 place_of name places = first_place (has_name name) places rack_places 0

@@ -1,27 +1,18 @@
 -- `rack_place::free_place` meets its contract.
-use mathlib.Core.Path.{sym, ◌∙◌}
+use mathlib.Core.Path.{◌≡◌, ◌∙◌}
+use borrow.Author.Rules.{rules}
+use borrow.Author.Tests.{tests}
+use lib.ListN.{length}
+use Rattle.std.proofs.lemmas.Iterator.{YieldsList-from_slice}
+use Rattle.std.proofs.lemmas.Iterator.Search.{position_from_yields_List}
+use Rattle.lists.proofs.Laws.{counted-elements}
+use Rattle.rack_names.specs.Names.{rack_places}
 use Rattle.rack_place.specs.Place.{is_free}
-use Rattle.rack_place.proofs.Finding.{seek-here, seek-next, seek-none}
+use Rattle.rack_place.proofs.Finding.{first-found}
 use Rattle.rack_place.proofs.free_place.Goals as goal
-
-pub returns-then-is_free : goal.returns-then-is_free
-returns-then-is_free c =
-    let loop-test = c.loop-i-test in
-    let tested = c.is_free in
-    let args = c.args in
-    let loop = c.loop-i in
-    seek-here (is_free) args.places loop.i loop.invariant loop-test.true (sym tested.ensures ∙ c.if-is_free.true)
-
-pub loop-i-preserved : goal.loop-i-preserved
-loop-i-preserved c =
-    let loop-test = c.loop-i-test in
-    let tested = c.is_free in
-    let args = c.args in
-    let loop = c.loop-i in
-    seek-next (is_free) args.places loop.i loop.invariant loop-test.true (sym tested.ensures ∙ c.if-is_free.false)
 
 pub returns : goal.returns
 returns c =
-    let args = c.args in
-    let loop = c.loop-i in
-    seek-none (is_free) args.places loop.i loop.invariant c.loop-i-test.false
+    let whole : length c.args.places ≡ rack_places = search (counted-elements, rules) in
+    position_from_yields_List is_free _ _ _ c.position.ensures.ran (YieldsList-from_slice c.args.places cc) (λ x b q k. search (rules, tests))
+    ∙ first-found is_free c.args.places whole

@@ -1,27 +1,18 @@
 -- `rack_place::place_of` meets its contract.
-use mathlib.Core.Path.{sym, ◌∙◌}
+use mathlib.Core.Path.{◌≡◌, ◌∙◌}
+use borrow.Author.Rules.{rules}
+use borrow.Author.Tests.{tests}
+use lib.ListN.{length}
+use Rattle.std.proofs.lemmas.Iterator.{YieldsList-from_slice}
+use Rattle.std.proofs.lemmas.Iterator.Search.{position_from_yields_List}
+use Rattle.lists.proofs.Laws.{counted-elements}
+use Rattle.rack_names.specs.Names.{rack_places}
 use Rattle.rack_place.specs.Place.{has_name}
-use Rattle.rack_place.proofs.Finding.{seek-here, seek-next, seek-none}
+use Rattle.rack_place.proofs.Finding.{first-found}
 use Rattle.rack_place.proofs.place_of.Goals as goal
-
-pub returns-then-has_name : goal.returns-then-has_name
-returns-then-has_name c =
-    let loop-test = c.loop-i-test in
-    let has-name = c.has_name in
-    let args = c.args in
-    let loop = c.loop-i in
-    seek-here (has_name args.name) args.places loop.i loop.invariant loop-test.true (sym has-name.ensures ∙ c.if-has_name.true)
-
-pub loop-i-preserved : goal.loop-i-preserved
-loop-i-preserved c =
-    let loop-test = c.loop-i-test in
-    let has-name = c.has_name in
-    let args = c.args in
-    let loop = c.loop-i in
-    seek-next (has_name args.name) args.places loop.i loop.invariant loop-test.true (sym has-name.ensures ∙ c.if-has_name.false)
 
 pub returns : goal.returns
 returns c =
-    let args = c.args in
-    let loop = c.loop-i in
-    seek-none (has_name args.name) args.places loop.i loop.invariant c.loop-i-test.false
+    let whole : length c.args.places ≡ rack_places = search (counted-elements, rules) in
+    position_from_yields_List (has_name c.args.name) _ _ _ c.position.ensures.ran (YieldsList-from_slice c.args.places cc) (λ x b q k. search (rules, tests))
+    ∙ first-found (has_name c.args.name) c.args.places whole
