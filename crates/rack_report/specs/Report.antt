@@ -1,7 +1,5 @@
 -- What a byte brings to the names of a rack: a report for each, how many there are, and the comparisons of all (document 02, A.1).
-use Rattle.std.specs.Prelude.{ℕ, ◌+◌, ◌-◌, List, [], ◌∷◌, ◌++◌, length, replicate}
-use Rattle.walk.specs.declared.Ring.{Ring}
-use Rattle.walk.specs.declared.Ring.TheVariants.{Silent, At}
+use Rattle.std.specs.Prelude.{ℕ, ◌+◌, ◌-◌, List, [], ◌∷◌, ◌++◌, length, replicate, Option, None, Some}
 use Rattle.walk.specs.Walk.{no_answer}
 use Rattle.rack_names.specs.Names.{rack_places}
 use Rattle.rack_report.specs.declared.Report.{Report}
@@ -28,6 +26,6 @@ abbrev pub no_reports : Reports
 no_reports = record { reports = replicate rack_places no_report; many = 0; comparisons = 0 }
 
 -- "whether a start rang, and which" (document 01): the start, or a number of the caller's where none rang.
-abbrev pub start_or : ℕ → Ring → ℕ
-start_or otherwise Silent = otherwise
-start_or otherwise (At start) = start
+abbrev pub start_or : ℕ → Option ℕ → ℕ
+start_or otherwise None = otherwise
+start_or otherwise (Some start) = start
