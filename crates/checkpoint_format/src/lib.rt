@@ -12,7 +12,7 @@ use fields::Width;
 use record::{PRINT_AT, PRINT_SIZE, WORD};
 
 // The two records of a parked watch: a wide one has places of the stream in 8 bytes, a narrow one in 4.
-#[derive(Clone, Copy)]
+#[derive(Clone, Copy, PartialEq, Eq, Debug)]
 pub enum Format {
     Narrow,
     Wide,

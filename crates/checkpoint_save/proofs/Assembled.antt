@@ -4,19 +4,34 @@ use Prim.Native.Nat.{ℕ, ◌+◌, ◌*◌, ◌≤◌}
 use mathlib.Core.Path.{◌≡◌, refl, ◌∙◌, ap}
 use mathlib.Core.List.{List, [], ◌∷◌, ◌++◌}
 use native.Mathlib.Omega.{arith}
-use lib.ListN.{length}
+use lib.ListN.{length, take}
+use lib.Seq.{length-take-le}
+use Rattle.std.proofs.lemmas.List.{get_or-take}
 use Rattle.fields.specs.Fields.{Field, widths, size, bytes_of, gathered, pasted, stamped}
 use Rattle.fields.specs.Calls.{put_each}
 use Rattle.fields.proofs.Gathered.{put-each, stamped-each, stamped-stamped}
+use Rattle.fields.proofs.Again.{gathered-same}
+use Rattle.stage.specs.Stage.{no_stage}
+use Rattle.stage.specs.Stages.{Stages}
 use Rattle.fingerprint.specs.Fingerprint.{key_numbers, print_numbers}
 use Rattle.ladder.specs.Prefix.{levels}
 use Rattle.matcher.specs.declared.Matcher.{Matcher}
 use Rattle.checkpoint_format.specs.declared.Format.{Format}
 use Rattle.record.specs.Layout.{word, kind_field, key_fields, print_fields_of}
 use Rattle.record.specs.Places.{m_place, key_place, print_place}
-use Rattle.checkpoint_format.specs.Layout.{mark_fields, stage_fields_of, checkpoint_kind, checkpoint_body, checkpoint_record}
+use Rattle.checkpoint_format.specs.Layout.{mark_fields, stage_fields, stage_fields_of, checkpoint_kind, checkpoint_body, checkpoint_record}
 use Rattle.checkpoint_format.specs.Places.{stage_size, now_place, stages_place}
 use Rattle.checkpoint_format.proofs.Sizes.{checkpoint-length}
+
+-- The first n stages of a watch are written as a list of their own.
+pub stages-taken :
+    (f : Format) (stages : Stages) (n : ℕ)
+    → n ≤ length stages
+    → gathered (stage_fields_of f (take n stages)) (length (take n stages)) ≡ gathered (stage_fields_of f stages) n
+stages-taken f stages n h =
+    rw (length-take-le n stages h)
+    (gathered-same (stage_fields_of f (take n stages)) (stage_fields_of f stages) n
+    (λ i l. ap (stage_fields f) (get_or-take n stages i no_stage l)))
 
 pub checkpoint-put :
     (f : Format) (w : Matcher) (k n : ℕ) (l b₁ b₂ b₃ b₄ b₅ b₆ : List ℕ)

@@ -14,19 +14,21 @@ use Rattle.checkpoint_save.proofs.put_stages.Goals as goal
 pub loop-i-init : goal.loop-i-init
 loop-i-init c =
     let a = c.args in
-    (omega arith, refl, stamped-none a.buf.now (stages_place a.format) (stage_fields_of a.format a.stages))
+    record { long = refl; written = stamped-none a.buf.now (stages_place a.format) (stage_fields_of a.format a.stages.now) }
 
 pub loop-i-preserved : goal.loop-i-preserved
 loop-i-preserved c =
     let a = c.args in
     let f = a.format in
-    let stages = stage_fields_of f a.stages in
-    let within =
-    stage-within f c.loop-i.i a.n (length a.buf.now) c.loop-i-test.true c.requires.0
-    in (
-      omega arith,
-      search rules,
-      rw (c.stages_at-from.ensures, c.stage_size-size.ensures) at c.put_stage.ensures
-          ∙ stamped-more a.buf.now (stages_place f) stages (stage_size f) (λ j. stage-size f (stage_at a.stages j)) c.loop-i.buf
-          c.loop-i.i (stages_place f + stage_size f * c.loop-i.i) (omega arith) (omega arith) c.loop-i.invariant.2,
-    )
+    let i = c.loop-i.i in
+    let at = stages_place f + stage_size f * i in
+    let stages = stage_fields_of f a.stages.now in
+    let before = c.loop-i.invariant in
+    let within = stage-within f i (length a.stages.now) (length a.buf.now) c.loop-i-test.true c.requires in
+    record {
+      long = search rules;
+      written =
+          rw (c.stages_at-from.ensures, c.stage_size-size.ensures) at c.put_stage.ensures
+          ∙ stamped-more a.buf.now (stages_place f) stages (stage_size f) (λ j. stage-size f (stage_at a.stages.now j)) c.loop-i.buf
+          i at (omega arith) (omega (arith, before.long)) before.written;
+    }

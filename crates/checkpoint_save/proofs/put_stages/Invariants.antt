@@ -1,5 +1,4 @@
 -- `checkpoint_save::put_stages` meets its contract: the stages passed stand one behind another.
-use Prim.Native.Nat.{◌-◌, ◌≤◌}
 use mathlib.Core.Path.{◌≡◌}
 use lib.ListN.{length}
 use Rattle.fields.specs.Fields.{gathered, stamped}
@@ -9,7 +8,7 @@ use Rattle.checkpoint_save.proofs.put_stages.Given as goal
 
 abbrev pub invariant-loop-i : goal.invariant-loop-i
 invariant-loop-i l =
-    (l.i ≤ l.n) × (length l.buf ≡ length l.initial.buf) × (l.buf ≡ stamped l.initial.buf (stages_place l.format) (gathered (stage_fields_of l.format l.stages) l.i))
-
-abbrev pub decreases-loop-i : goal.decreases-loop-i
-decreases-loop-i l = l.n - l.i
+    record {
+      long : length l.buf ≡ length l.initial.buf;
+      written : l.buf ≡ stamped l.initial.buf (stages_place l.format) (gathered (stage_fields_of l.format l.stages) l.i);
+    }

@@ -1,4 +1,4 @@
--- `checkpoint_save::save_as` meets its contract: its tests are the definition's, and the record is written whole.
+-- `checkpoint_save::save` meets its contract: its tests are the definition's, and the record is written whole.
 use Prim.Native.Nat.{ℕ, ◌+◌}
 use mathlib.Core.Path.{◌≡◌, sym, ◌∙◌, ap}
 use mathlib.Core.Bool.{true}
@@ -11,7 +11,7 @@ use Rattle.checkpoint_format.specs.Calls.{can_say}
 use Rattle.checkpoint_save.specs.Calls.{watch_judged}
 use Rattle.record.proofs.Writing.{put-no-room, put_whole}
 use Rattle.checkpoint_format.proofs.Sizes.{checkpoint-size, checkpoint-whole}
-use Rattle.checkpoint_save.proofs.save_as.Goals as goal
+use Rattle.checkpoint_save.proofs.save.Goals as goal
 
 pub returns-then-buf-size : goal.returns-then-buf-size
 returns-then-buf-size c =
@@ -23,9 +23,8 @@ returns-then-buf-size c =
     let size = c.checkpoint_size-size.ensures ∙ ap (λ (k : ℕ). checkpoint_length f k + 4) c.levels-k.ensures in
     let refused =
     put-no-room (watch_judged f w) (checkpoint_record f w) a.buf.now (rw (good, said)) (omega (arith, checkpoint-size f w))
-    c.unwritten-then-buf-size.ensures.0 c.unwritten-then-buf-size.ensures.1
     in
-    record { verdict = refused.0; used = refused.1.0; buffer = refused.1.1 }
+    record { verdict = refused.0; used = tt; buffer = refused.1 }
 
 pub put_checkpoint-requires : goal.put_checkpoint-requires
 put_checkpoint-requires c =
