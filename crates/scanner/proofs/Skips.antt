@@ -7,7 +7,7 @@ use mathlib.Core.List.{List, [], ◌∷◌, ◌++◌}
 use native.Mathlib.Nat.{add-zero}
 use native.Mathlib.Numerals.{add-one}
 use native.Mathlib.Omega.{arith}
-use lib.ListN.{length, drop, get_or}
+use lib.ListN.{length, drop, get_or, drop_of_length-le}
 use lib.Seq.{drop-cons}
 use borrow.Author.Tests.{le-leb}
 use Rattle.fingerprint.specs.declared.Key.{Key}
@@ -16,7 +16,8 @@ use Rattle.fingerprint.specs.Fingerprint.{empty}
 use Rattle.lists.proofs.Cases.{by-test}
 use Rattle.stage.specs.declared.Mark.{Mark}
 use Rattle.stage.specs.Stage.{max_taken}
-use Rattle.walk.specs.Walk.{no_answer, compared, next_mark}
+use Rattle.walk.specs.Walk.{no_answer, compared}
+use Rattle.stage.specs.Stage.{next_mark}
 use Rattle.walk.specs.Quiet.{is_first}
 use Rattle.matcher.specs.declared.Matcher.{Matcher}
 use Rattle.matcher.specs.Matcher.{matcher_fits}
@@ -31,6 +32,11 @@ module _ (key : Key) (first : Fingerprint) (input : List ℕ) (mark : Mark) wher
   pub skipped-none : (n at : ℕ) → n ≡ 0 → skipped key first n mark (drop at input) ≡ mark
   unfolding skipped
   skipped-none n at e = rw e
+
+  pub skipped-all : (n at : ℕ) → length input ≤ at → skipped key first n mark (drop at input) ≡ mark
+  unfolding skipped
+  skipped-all zero at l = refl
+  skipped-all (suc n) at l = rw (drop_of_length-le input l)
 
   module _ (n at : ℕ) (some : 0 < n) (inside : at < length input) where
     skipped-next :

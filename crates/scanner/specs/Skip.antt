@@ -1,11 +1,11 @@
 -- Definitions for the functions behind `scan`: bytes that can change no stage are passed over together.
-use Rattle.std.specs.Prelude.{ℕ, zero, suc, ◌+◌, ◌≡◌, cond, List, [], ◌∷◌, ◌++◌, length, drop}
+use Rattle.std.specs.Prelude.{ℕ, zero, suc, ◌+◌, ◌≡◌, cond, List, [], ◌∷◌, ◌++◌, length, drop, Result}
 use Rattle.fingerprint.specs.declared.Key.{Key}
 use Rattle.fingerprint.specs.declared.Fingerprint.{Fingerprint}
-use Rattle.refusal.specs.declared.Verdict.{Verdict}
+use Rattle.refusal.specs.declared.Refusal.{Refusal}
 use Rattle.refusal.specs.Number.{number}
 use Rattle.stage.specs.declared.Mark.{Mark}
-use Rattle.walk.specs.Walk.{next_mark}
+use Rattle.stage.specs.Stage.{next_mark}
 use Rattle.walk.specs.Quiet.{is_first}
 use Rattle.matcher.specs.declared.Matcher.{Matcher}
 use Rattle.scanner.specs.declared.Ended.{Ended}
@@ -19,7 +19,7 @@ skipped key first (suc n) now (byte ∷ bytes) =
     cond (is_first first byte) now (skipped key first n (next_mark key now byte) bytes)
 
 -- The end of a run: the watch, how many numbers were noted, all comparisons, the place behind the last byte taken, and the verdict.
-abbrev pub end_of : Matcher → ℕ → ℕ → ℕ → Verdict → Ended
+abbrev pub end_of : Matcher → ℕ → ℕ → ℕ → Result (Unit {0}) Refusal → Ended
 end_of matcher noted comparisons next verdict =
     record { matcher = matcher; noted = noted; comparisons = comparisons; next = next; verdict = verdict }
 

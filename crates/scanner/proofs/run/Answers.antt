@@ -1,264 +1,109 @@
 -- `scanner::run` meets its contract: the loop keeps the run going, with the notes of the bytes taken at the list's front.
-use Prim.Native.Nat.{◌+◌, ◌-◌, ◌≤◌}
-use mathlib.Core.Path.{◌≡◌, sym, ◌∙◌}
-use native.Mathlib.Omega.{arith}
-use borrow.Author.Tests.{not-false, le-leb}
-use lib.ListN.{length, get_or}
-use Rattle.lists.proofs.Storing.{same_size}
-use Rattle.matcher.specs.Matcher.{moved}
-use Rattle.matcher.specs.Stroke.{walked}
-use Rattle.notes.specs.Notes.{note_room}
-use Rattle.matcher.proofs.Climbing.{climbed as walk_of}
-use Rattle.matcher.proofs.Sound.{sound, card-of, shapes-fit}
-use Rattle.scanner.proofs.Running.{Running, run-begin, run_end, run-full, run-spent, run-count, run_step, run-silent, run-skip}
+use Rattle.std.proofs.Common.{◌+◌, ◌-◌, ◌≤◌, length, drop, length-drop, refl, sym, ◌∙◌, arith}
+use lib.Seq.{take_all}
+use Rattle.signature.specs.Signature.{max_length}
+use Rattle.powers.specs.Powers.{Shifts}
+use Rattle.matcher.proofs.Sound.{sound, card-of}
+use Rattle.scanner.proofs.Running.{Running, run-begin, run_end, run-full, run-spent, run_skip, run_noted, run_silent}
 use Rattle.scanner.proofs.run.Goals as goal
+use Rattle.scanner.proofs.run.Goals.{After-saturating_sub-skipped, After-climb}
 
-pub shifts-shifts-requires : goal.shifts-shifts-requires
-shifts-shifts-requires c =
-    (card-of (sound c.args.matcher c.requires.0)).short
-
-pub loop-at-init : goal.loop-at-init
-loop-at-init c =
-    let args = c.args in
-    (run-begin args.matcher args.input.now args.from args.notes.now c.requires.0 c.requires.1, omega (arith, c.requires.2))
+pub loop-ended-init : goal.loop-ended-init
+loop-ended-init c =
+    rw c.untaken-ended.ensures
+    (record {
+      going = run-begin c.args.matcher c.args.input.now c.args.from c.args.notes.now c.requires.0 c.requires.1;
+      roomy = omega (arith, c.requires.2);
+      accepted = refl;
+      own = refl;
+    })
 
 pub quiet_until-until-requires : goal.quiet_until-until-requires
 quiet_until-until-requires c =
-    let args = c.args in
-    let loop = c.loop-at in
-    let q = sound (record { signature = args.matcher.signature; now = loop.now; stages = loop.stages }) loop.invariant.0.fits in
-    ((card-of q).long, (card-of q).short)
+    let card = card-of (sound c.args.matcher c.requires.0) in
+    (card.long, card.short)
 
-pub overflow_add-at : goal.overflow_add-at
-overflow_add-at c = omega (
-  arith,
-  ((let its-passed : let args = c.args in let loop = c.loop-at in Running args.matcher args.input.now args.from args.notes.now (record { signature = args.matcher.signature; now = c.skip-start.result; stages = loop.stages }) (loop.at + c.distance-skipped.result) loop.noted (loop.comparisons + c.distance-skipped.result) loop.notes =
-      let args = c.args in
-      let loop = c.loop-at in
-      let quiet-until = c.quiet_until-until in
-      rw c.distance-skipped.ensures
-      (run-skip args.matcher args.input.now args.from args.notes.now
-      (record { signature = args.matcher.signature; now = loop.now; stages = loop.stages })
-      loop.at loop.noted loop.comparisons loop.notes loop.invariant.0 loop.invariant.1 quiet-until.result quiet-until.ensures.0
-      quiet-until.ensures.1 c.skip-start.result c.skip-start.ensures) in its-passed)).within,
-)
+-- behind the bytes passed over
+passed :
+    (c : After-saturating_sub-skipped)
+    → Running c.args.matcher c.args.input.now c.args.from c.args.notes.now
+    (record { signature = c.loop-ended.ended.matcher.signature; now = c.skip-start.result; stages = c.loop-ended.ended.matcher.stages })
+    (c.loop-ended.ended.next + c.saturating_sub-skipped.result) c.loop-ended.ended.noted
+    (c.loop-ended.ended.comparisons + c.saturating_sub-skipped.result) c.loop-ended.notes
+passed c =
+    let q = c.loop-ended.invariant in
+    let input = c.args.input.now in
+    let next = c.loop-ended.ended.next in
+    let rest = take_all (length input - next) (drop next input) (omega (arith, length-drop next input)) in
+    run_skip c.args.matcher c.args.input.now c.args.from c.args.notes.now c.loop-ended.ended.matcher _ _ _ _ q.going q.roomy
+    c.args.matcher.signature q.own c.quiet_until-until.result c.quiet_until-until.ensures.0 c.quiet_until-until.ensures.1
+    c.skip-start.result (rw rest at c.skip-start.ensures) c.saturating_sub-skipped.result c.saturating_sub-skipped.ensures
 
-pub overflow_add-comparisons : goal.overflow_add-comparisons
-overflow_add-comparisons c = omega (
-  arith,
-  ((let its-passed : let args = c.args in let loop = c.loop-at in Running args.matcher args.input.now args.from args.notes.now (record { signature = args.matcher.signature; now = c.skip-start.result; stages = loop.stages }) (loop.at + c.distance-skipped.result) loop.noted (loop.comparisons + c.distance-skipped.result) loop.notes =
-      let args = c.args in
-      let loop = c.loop-at in
-      let quiet-until = c.quiet_until-until in
-      rw c.distance-skipped.ensures
-      (run-skip args.matcher args.input.now args.from args.notes.now
-      (record { signature = args.matcher.signature; now = loop.now; stages = loop.stages })
-      loop.at loop.noted loop.comparisons loop.notes loop.invariant.0 loop.invariant.1 quiet-until.result quiet-until.ensures.0
-      quiet-until.ensures.1 c.skip-start.result c.skip-start.ensures) in its-passed)).few,
-  ((let its-passed : let args = c.args in let loop = c.loop-at in Running args.matcher args.input.now args.from args.notes.now (record { signature = args.matcher.signature; now = c.skip-start.result; stages = loop.stages }) (loop.at + c.distance-skipped.result) loop.noted (loop.comparisons + c.distance-skipped.result) loop.notes =
-      let args = c.args in
-      let loop = c.loop-at in
-      let quiet-until = c.quiet_until-until in
-      rw c.distance-skipped.ensures
-      (run-skip args.matcher args.input.now args.from args.notes.now
-      (record { signature = args.matcher.signature; now = loop.now; stages = loop.stages })
-      loop.at loop.noted loop.comparisons loop.notes loop.invariant.0 loop.invariant.1 quiet-until.result quiet-until.ensures.0
-      quiet-until.ensures.1 c.skip-start.result c.skip-start.ensures) in its-passed)).room,
-)
+-- the powers of the card's key
+table : (c : After-climb) → c.args.matcher.signature.length ≤ max_length → Shifts c.args.matcher.signature.key c.args.matcher.signature.length c.shifts-shifts.result
+table c = rw c.of.ensures at c.shifts-shifts.ensures
+
+pub overflow_add-ended : goal.overflow_add-ended
+overflow_add-ended c = omega (arith, (passed c).within)
+
+pub overflow_add-ended-in-loop-ended : goal.overflow_add-ended-in-loop-ended
+overflow_add-ended-in-loop-ended c = omega (arith, (passed c).few, (passed c).room)
 
 pub returns-then-start-ge-MAX_TAKEN : goal.returns-then-start-ge-MAX_TAKEN
 returns-then-start-ge-MAX_TAKEN c =
-    let args = c.args in
-    rw (c.halt.ensures, c.moved-matcher.ensures)
-    (run-spent args.matcher args.input.now args.from args.notes.now _ _ _ _ _ ((let its-passed : let args = c.args in let loop = c.loop-at in Running args.matcher args.input.now args.from args.notes.now (record { signature = args.matcher.signature; now = c.skip-start.result; stages = loop.stages }) (loop.at + c.distance-skipped.result) loop.noted (loop.comparisons + c.distance-skipped.result) loop.notes =
-    let args = c.args in
-    let loop = c.loop-at in
-    let quiet-until = c.quiet_until-until in
-    rw c.distance-skipped.ensures
-    (run-skip args.matcher args.input.now args.from args.notes.now
-    (record { signature = args.matcher.signature; now = loop.now; stages = loop.stages })
-    loop.at loop.noted loop.comparisons loop.notes loop.invariant.0 loop.invariant.1 quiet-until.result quiet-until.ensures.0
-    quiet-until.ensures.1 c.skip-start.result c.skip-start.ensures) in its-passed)) c.if-at-input.true
-    c.loop-at.invariant.1 c.if-start-ge-MAX_TAKEN.true)
+    run-spent c.args.matcher c.args.input.now c.args.from c.args.notes.now _ _ _ _ _
+    (passed (goal.at.returns-then-start-ge-MAX_TAKEN c).After-saturating_sub-skipped)
+    c.if-ended-input.true c.loop-ended.invariant.roomy c.if-start-ge-MAX_TAKEN.true
 
-pub returns-then-last-noted : goal.returns-then-last-noted
-returns-then-last-noted c =
-    let args = c.args in
-    rw (c.halt-then-last-noted.ensures, c.moved-matcher-then-last-noted.ensures)
-    (run-full args.matcher args.input.now args.from args.notes.now _ _ _ _ _ ((let its-noted : let args = c.args in let loop = c.loop-at in Running args.matcher args.input.now args.from args.notes.now (record { signature = args.matcher.signature; now = c.next_mark-now.result; stages = c.climb-w.result.stages }) (loop.at + c.distance-skipped.result + 1) c.put_answer-noted.result (loop.comparisons + c.distance-skipped.result + c.climb-w.result.answer.comparisons) c.put_answer-noted.new.notes =
-    let args = c.args in
-    let if1 = c.if-at-input in
-    let if2 = c.if-start-ge-MAX_TAKEN in
-    let size = same_size c.loop-at.invariant.0.stored in
-    let room : c.loop-at.noted + note_room ≤ length c.loop-at.notes = omega (arith, c.loop-at.invariant.1, size) in
-    let put =
-    rw (
-      (let its-climbed : let args = c.args in c.climb-w.result ≡ walked (record { signature = args.matcher.signature; now = c.skip-start.result; stages = c.loop-at.stages }) (get_or args.input.now (c.loop-at.at + c.distance-skipped.result) 0) =
-          let run = (let its-passed : let args = c.args in let loop = c.loop-at in Running args.matcher args.input.now args.from args.notes.now (record { signature = args.matcher.signature; now = c.skip-start.result; stages = loop.stages }) (loop.at + c.distance-skipped.result) loop.noted (loop.comparisons + c.distance-skipped.result) loop.notes =
-          let args = c.args in
-          let loop = c.loop-at in
-          let quiet-until = c.quiet_until-until in
-          rw c.distance-skipped.ensures
-          (run-skip args.matcher args.input.now args.from args.notes.now
-          (record { signature = args.matcher.signature; now = loop.now; stages = loop.stages })
-          loop.at loop.noted loop.comparisons loop.notes loop.invariant.0 loop.invariant.1 quiet-until.result quiet-until.ensures.0
-          quiet-until.ensures.1 c.skip-start.result c.skip-start.ensures) in its-passed) in
-          let q = sound _ run.fits in
-          walk_of _ _ _ c.shifts-shifts.ensures (card-of q) run.room (shapes-fit _ q) c.next_mark-now.result
-          c.next_mark-now.ensures c.climb-w.result c.climb-w.ensures in its-climbed),
-      c.next_mark-now.ensures,
-      le-leb (c.loop-at.noted + note_room) (length c.loop-at.notes) room,
-    ) at
-    c.put_answer-noted.ensures
+pub returns-then-last-ended : goal.returns-then-last-ended
+returns-then-last-ended c =
+    let q = c.loop-ended.invariant in
+    let climbed = (goal.at.returns-then-last-ended c).After-climb in
+    let noted =
+    run_noted c.args.matcher c.args.input.now c.args.from c.args.notes.now _ _ _ _ _
+    (passed (goal.at.returns-then-last-ended c).After-saturating_sub-skipped)
+    c.if-ended-input.true q.roomy c.if-start-ge-MAX_TAKEN.false c.args.matcher.signature q.own c.shifts-shifts.result (table climbed)
+    c.next-now.result c.next-now.ensures.more c.climb.result c.climb.ensures _ _ c.put_answer.ensures
     in
-    rw (
-      (let its-climbed : let args = c.args in c.climb-w.result ≡ walked (record { signature = args.matcher.signature; now = c.skip-start.result; stages = c.loop-at.stages }) (get_or args.input.now (c.loop-at.at + c.distance-skipped.result) 0) =
-          let run = (let its-passed : let args = c.args in let loop = c.loop-at in Running args.matcher args.input.now args.from args.notes.now (record { signature = args.matcher.signature; now = c.skip-start.result; stages = loop.stages }) (loop.at + c.distance-skipped.result) loop.noted (loop.comparisons + c.distance-skipped.result) loop.notes =
-          let args = c.args in
-          let loop = c.loop-at in
-          let quiet-until = c.quiet_until-until in
-          rw c.distance-skipped.ensures
-          (run-skip args.matcher args.input.now args.from args.notes.now
-          (record { signature = args.matcher.signature; now = loop.now; stages = loop.stages })
-          loop.at loop.noted loop.comparisons loop.notes loop.invariant.0 loop.invariant.1 quiet-until.result quiet-until.ensures.0
-          quiet-until.ensures.1 c.skip-start.result c.skip-start.ensures) in its-passed) in
-          let q = sound _ run.fits in
-          walk_of _ _ _ c.shifts-shifts.ensures (card-of q) run.room (shapes-fit _ q) c.next_mark-now.result
-          c.next_mark-now.ensures c.climb-w.result c.climb-w.ensures in its-climbed),
-      c.next_mark-now.ensures,
-    )
-    (run_step args.matcher args.input.now args.from args.notes.now _ _ _ _ _ ((let its-passed : let args = c.args in let loop = c.loop-at in Running args.matcher args.input.now args.from args.notes.now (record { signature = args.matcher.signature; now = c.skip-start.result; stages = loop.stages }) (loop.at + c.distance-skipped.result) loop.noted (loop.comparisons + c.distance-skipped.result) loop.notes =
-    let args = c.args in
-    let loop = c.loop-at in
-    let quiet-until = c.quiet_until-until in
-    rw c.distance-skipped.ensures
-    (run-skip args.matcher args.input.now args.from args.notes.now
-    (record { signature = args.matcher.signature; now = loop.now; stages = loop.stages })
-    loop.at loop.noted loop.comparisons loop.notes loop.invariant.0 loop.invariant.1 quiet-until.result quiet-until.ensures.0
-    quiet-until.ensures.1 c.skip-start.result c.skip-start.ensures) in its-passed)) if1.true
-    c.loop-at.invariant.1 if2.false _ _ put) in its-noted)) (omega (arith, c.if-last-noted.true)))
+    rw q.accepted (run-full c.args.matcher c.args.input.now c.args.from c.args.notes.now _ _ _ _ _ noted (omega (arith, c.if-last-ended.true)))
 
-pub loop-at-preserved-else-last-noted : goal.loop-at-preserved-else-last-noted
-loop-at-preserved-else-last-noted c = (
-  (let its-noted : let args = c.args in let loop = c.loop-at in Running args.matcher args.input.now args.from args.notes.now (record { signature = args.matcher.signature; now = c.next_mark-now.result; stages = c.climb-w.result.stages }) (loop.at + c.distance-skipped.result + 1) c.put_answer-noted.result (loop.comparisons + c.distance-skipped.result + c.climb-w.result.answer.comparisons) c.put_answer-noted.new.notes =
-      let args = c.args in
-      let if1 = c.if-at-input in
-      let if2 = c.if-start-ge-MAX_TAKEN in
-      let size = same_size c.loop-at.invariant.0.stored in
-      let room : c.loop-at.noted + note_room ≤ length c.loop-at.notes = omega (arith, c.loop-at.invariant.1, size) in
-      let put =
-      rw (
-        (let its-climbed : let args = c.args in c.climb-w.result ≡ walked (record { signature = args.matcher.signature; now = c.skip-start.result; stages = c.loop-at.stages }) (get_or args.input.now (c.loop-at.at + c.distance-skipped.result) 0) =
-            let run = (let its-passed : let args = c.args in let loop = c.loop-at in Running args.matcher args.input.now args.from args.notes.now (record { signature = args.matcher.signature; now = c.skip-start.result; stages = loop.stages }) (loop.at + c.distance-skipped.result) loop.noted (loop.comparisons + c.distance-skipped.result) loop.notes =
-            let args = c.args in
-            let loop = c.loop-at in
-            let quiet-until = c.quiet_until-until in
-            rw c.distance-skipped.ensures
-            (run-skip args.matcher args.input.now args.from args.notes.now
-            (record { signature = args.matcher.signature; now = loop.now; stages = loop.stages })
-            loop.at loop.noted loop.comparisons loop.notes loop.invariant.0 loop.invariant.1 quiet-until.result quiet-until.ensures.0
-            quiet-until.ensures.1 c.skip-start.result c.skip-start.ensures) in its-passed) in
-            let q = sound _ run.fits in
-            walk_of _ _ _ c.shifts-shifts.ensures (card-of q) run.room (shapes-fit _ q) c.next_mark-now.result
-            c.next_mark-now.ensures c.climb-w.result c.climb-w.ensures in its-climbed),
-        c.next_mark-now.ensures,
-        le-leb (c.loop-at.noted + note_room) (length c.loop-at.notes) room,
-      ) at
-      c.put_answer-noted.ensures
-      in
-      rw (
-        (let its-climbed : let args = c.args in c.climb-w.result ≡ walked (record { signature = args.matcher.signature; now = c.skip-start.result; stages = c.loop-at.stages }) (get_or args.input.now (c.loop-at.at + c.distance-skipped.result) 0) =
-            let run = (let its-passed : let args = c.args in let loop = c.loop-at in Running args.matcher args.input.now args.from args.notes.now (record { signature = args.matcher.signature; now = c.skip-start.result; stages = loop.stages }) (loop.at + c.distance-skipped.result) loop.noted (loop.comparisons + c.distance-skipped.result) loop.notes =
-            let args = c.args in
-            let loop = c.loop-at in
-            let quiet-until = c.quiet_until-until in
-            rw c.distance-skipped.ensures
-            (run-skip args.matcher args.input.now args.from args.notes.now
-            (record { signature = args.matcher.signature; now = loop.now; stages = loop.stages })
-            loop.at loop.noted loop.comparisons loop.notes loop.invariant.0 loop.invariant.1 quiet-until.result quiet-until.ensures.0
-            quiet-until.ensures.1 c.skip-start.result c.skip-start.ensures) in its-passed) in
-            let q = sound _ run.fits in
-            walk_of _ _ _ c.shifts-shifts.ensures (card-of q) run.room (shapes-fit _ q) c.next_mark-now.result
-            c.next_mark-now.ensures c.climb-w.result c.climb-w.ensures in its-climbed),
-        c.next_mark-now.ensures,
-      )
-      (run_step args.matcher args.input.now args.from args.notes.now _ _ _ _ _ ((let its-passed : let args = c.args in let loop = c.loop-at in Running args.matcher args.input.now args.from args.notes.now (record { signature = args.matcher.signature; now = c.skip-start.result; stages = loop.stages }) (loop.at + c.distance-skipped.result) loop.noted (loop.comparisons + c.distance-skipped.result) loop.notes =
-      let args = c.args in
-      let loop = c.loop-at in
-      let quiet-until = c.quiet_until-until in
-      rw c.distance-skipped.ensures
-      (run-skip args.matcher args.input.now args.from args.notes.now
-      (record { signature = args.matcher.signature; now = loop.now; stages = loop.stages })
-      loop.at loop.noted loop.comparisons loop.notes loop.invariant.0 loop.invariant.1 quiet-until.result quiet-until.ensures.0
-      quiet-until.ensures.1 c.skip-start.result c.skip-start.ensures) in its-passed)) if1.true
-      c.loop-at.invariant.1 if2.false _ _ put) in its-noted),
-  omega (arith, c.requires.2, c.if-last-noted.false),
-)
+pub loop-ended-preserved-else-last-ended : goal.loop-ended-preserved-else-last-ended
+loop-ended-preserved-else-last-ended c =
+    let q = c.loop-ended.invariant in
+    record {
+      going =
+          run_noted c.args.matcher c.args.input.now c.args.from c.args.notes.now _ _ _ _ _
+          (passed (goal.at.loop-ended-preserved-else-last-ended c).After-saturating_sub-skipped)
+          c.if-ended-input.true q.roomy c.if-start-ge-MAX_TAKEN.false c.args.matcher.signature q.own c.shifts-shifts.result
+          (table (goal.at.loop-ended-preserved-else-last-ended c).After-climb)
+          c.next-now.result c.next-now.ensures.more c.climb.result c.climb.ensures _ _ c.put_answer.ensures;
+      roomy = omega (arith, c.requires.2, c.if-last-ended.false);
+      accepted = q.accepted;
+      own = q.own;
+    }
 
-pub loop-at-preserved-else-not-is_silent : goal.loop-at-preserved-else-not-is_silent
-loop-at-preserved-else-not-is_silent c =
-    let args = c.args in
-    let if1 = c.if-at-input in
-    let if2 = c.if-start-ge-MAX_TAKEN in
-    let inv = c.loop-at.invariant in
-    let silent = rw ((let its-climbed : let args = c.args in c.climb-w.result ≡ walked (record { signature = args.matcher.signature; now = c.skip-start.result; stages = c.loop-at.stages }) (get_or args.input.now (c.loop-at.at + c.distance-skipped.result) 0) =
-    let run = (let its-passed : let args = c.args in let loop = c.loop-at in Running args.matcher args.input.now args.from args.notes.now (record { signature = args.matcher.signature; now = c.skip-start.result; stages = loop.stages }) (loop.at + c.distance-skipped.result) loop.noted (loop.comparisons + c.distance-skipped.result) loop.notes =
-    let args = c.args in
-    let loop = c.loop-at in
-    let quiet-until = c.quiet_until-until in
-    rw c.distance-skipped.ensures
-    (run-skip args.matcher args.input.now args.from args.notes.now
-    (record { signature = args.matcher.signature; now = loop.now; stages = loop.stages })
-    loop.at loop.noted loop.comparisons loop.notes loop.invariant.0 loop.invariant.1 quiet-until.result quiet-until.ensures.0
-    quiet-until.ensures.1 c.skip-start.result c.skip-start.ensures) in its-passed) in
-    let q = sound _ run.fits in
-    walk_of _ _ _ c.shifts-shifts.ensures (card-of q) run.room (shapes-fit _ q) c.next_mark-now.result
-    c.next_mark-now.ensures c.climb-w.result c.climb-w.ensures in its-climbed)) at (sym c.is_silent.ensures ∙ not-false _ c.if-not-is_silent.false-raw) in
-    rw (
-      (let its-climbed : let args = c.args in c.climb-w.result ≡ walked (record { signature = args.matcher.signature; now = c.skip-start.result; stages = c.loop-at.stages }) (get_or args.input.now (c.loop-at.at + c.distance-skipped.result) 0) =
-          let run = (let its-passed : let args = c.args in let loop = c.loop-at in Running args.matcher args.input.now args.from args.notes.now (record { signature = args.matcher.signature; now = c.skip-start.result; stages = loop.stages }) (loop.at + c.distance-skipped.result) loop.noted (loop.comparisons + c.distance-skipped.result) loop.notes =
-          let args = c.args in
-          let loop = c.loop-at in
-          let quiet-until = c.quiet_until-until in
-          rw c.distance-skipped.ensures
-          (run-skip args.matcher args.input.now args.from args.notes.now
-          (record { signature = args.matcher.signature; now = loop.now; stages = loop.stages })
-          loop.at loop.noted loop.comparisons loop.notes loop.invariant.0 loop.invariant.1 quiet-until.result quiet-until.ensures.0
-          quiet-until.ensures.1 c.skip-start.result c.skip-start.ensures) in its-passed) in
-          let q = sound _ run.fits in
-          walk_of _ _ _ c.shifts-shifts.ensures (card-of q) run.room (shapes-fit _ q) c.next_mark-now.result
-          c.next_mark-now.ensures c.climb-w.result c.climb-w.ensures in its-climbed),
-      c.next_mark-now.ensures,
-    ) (
-      run-silent args.matcher args.input.now args.from args.notes.now _ _ _ _ _ ((let its-passed : let args = c.args in let loop = c.loop-at in Running args.matcher args.input.now args.from args.notes.now (record { signature = args.matcher.signature; now = c.skip-start.result; stages = loop.stages }) (loop.at + c.distance-skipped.result) loop.noted (loop.comparisons + c.distance-skipped.result) loop.notes =
-          let args = c.args in
-          let loop = c.loop-at in
-          let quiet-until = c.quiet_until-until in
-          rw c.distance-skipped.ensures
-          (run-skip args.matcher args.input.now args.from args.notes.now
-          (record { signature = args.matcher.signature; now = loop.now; stages = loop.stages })
-          loop.at loop.noted loop.comparisons loop.notes loop.invariant.0 loop.invariant.1 quiet-until.result quiet-until.ensures.0
-          quiet-until.ensures.1 c.skip-start.result c.skip-start.ensures) in its-passed)) if1.true inv.1 if2.false
-          silent,
-      inv.1,
-    )
+pub loop-ended-preserved-else-not-is_silent : goal.loop-ended-preserved-else-not-is_silent
+loop-ended-preserved-else-not-is_silent c =
+    let q = c.loop-ended.invariant in
+    record {
+      going =
+          run_silent c.args.matcher c.args.input.now c.args.from c.args.notes.now _ _ _ _ _
+          (passed (goal.at.loop-ended-preserved-else-not-is_silent c).After-saturating_sub-skipped)
+          c.if-ended-input.true q.roomy c.if-start-ge-MAX_TAKEN.false c.args.matcher.signature q.own c.shifts-shifts.result
+          (table (goal.at.loop-ended-preserved-else-not-is_silent c).After-climb)
+          c.next-now.result c.next-now.ensures.more c.climb.result c.climb.ensures (sym c.is_silent.ensures ∙ c.if-not-is_silent.false);
+      roomy = q.roomy;
+      accepted = q.accepted;
+      own = q.own;
+    }
 
-pub loop-at-preserved : goal.loop-at-preserved
-loop-at-preserved c = (
-  (let its-passed : let args = c.args in let loop = c.loop-at in Running args.matcher args.input.now args.from args.notes.now (record { signature = args.matcher.signature; now = c.skip-start.result; stages = loop.stages }) (loop.at + c.distance-skipped.result) loop.noted (loop.comparisons + c.distance-skipped.result) loop.notes =
-      let args = c.args in
-      let loop = c.loop-at in
-      let quiet-until = c.quiet_until-until in
-      rw c.distance-skipped.ensures
-      (run-skip args.matcher args.input.now args.from args.notes.now
-      (record { signature = args.matcher.signature; now = loop.now; stages = loop.stages })
-      loop.at loop.noted loop.comparisons loop.notes loop.invariant.0 loop.invariant.1 quiet-until.result quiet-until.ensures.0
-      quiet-until.ensures.1 c.skip-start.result c.skip-start.ensures) in its-passed),
-  c.loop-at.invariant.1,
-)
+pub loop-ended-preserved : goal.loop-ended-preserved
+loop-ended-preserved c =
+    let q = c.loop-ended.invariant in
+    record { going = passed (goal.at.loop-ended-preserved c).After-saturating_sub-skipped; roomy = q.roomy; accepted = q.accepted; own = q.own }
 
 pub returns : goal.returns
 returns c =
-    let args = c.args in
-    rw (c.halt-2.ensures, c.moved-matcher-2.ensures)
-    (run_end args.matcher args.input.now args.from args.notes.now _ _ _ _ _ c.loop-at.invariant.0 c.loop-at-test.false)
+    let q = c.loop-ended.invariant in
+    let end = run_end c.args.matcher c.args.input.now c.args.from c.args.notes.now c.loop-ended.ended.matcher _ _ _ _ q.going c.loop-ended-test.false in
+    rw (← q.accepted) at end
