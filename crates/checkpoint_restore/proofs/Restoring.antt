@@ -8,7 +8,6 @@ use borrow.Author.Tests.{ne_eqb}
 use Rattle.signature.specs.declared.Signature.{Signature}
 use Rattle.signature.specs.Signature.{signature_fits}
 use Rattle.matcher.specs.declared.Matcher.{Matcher}
-use Rattle.matcher.specs.Matcher.{no_matcher}
 use Rattle.checkpoint_format.specs.declared.Format.{Format}
 use Rattle.record.specs.Layout.{length_width, length_field}
 use Rattle.record.specs.Calls.{head_refusal}
@@ -31,17 +30,6 @@ module _ (card : Signature) (s : List ℕ) where
   pub card-misfits : signature_fits card ≡ false → 10 ≡ restore_refusal card s
   unfolding restore_refusal
   card-misfits e = rw e
-
-  -- refused: nothing is handed back
-  pub restore-nothing :
-      (n taken : ℕ) (w : Matcher)
-      → (n ≡ 0 → ⊥)
-      → n ≡ restore_refusal card s
-      → w ≡ no_matcher
-      → taken ≡ 0
-      → (n ≡ restore_refusal card s) × ((w ≡ restored_matcher card s) × (taken ≡ restore_taken card s))
-  unfolding restored_matcher restore_taken
-  restore-nothing n taken w h e ew et = rw (← e, ne_eqb n 0 h) (refl, (ew, et))
 
   module _ (fits : signature_fits card ≡ true) where
     pub unrestored-at :

@@ -6,4 +6,4 @@ use Rattle.checkpoint_restore.proofs.gap_at.Goals as goal
 
 pub returns : goal.returns
 unfolding values_at gap_from print_numbers
-returns c = λ i. record { length = c.word_at.ensures i; print = c.print_at-print.ensures i }
+returns c = λ i. record { length = c.word_at.ensures i; print = c.print_at.ensures i }

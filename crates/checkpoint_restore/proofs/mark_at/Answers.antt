@@ -14,7 +14,7 @@ returns c =
     let s = a.buf.now in
     let at = c.number_at.ensures.answer ∙ ap (number_at s a.at) c.width-width.ensures in
     let print =
-    c.print_at-print.ensures
+    c.print_at.ensures
     ∙ ap (λ (n : ℕ). print_of (values_at s (a.at + n) (widths (print_fields empty))))
     (c.bytes.ensures ∙ c.width-width.ensures)
     in

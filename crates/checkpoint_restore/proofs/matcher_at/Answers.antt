@@ -15,7 +15,7 @@ unfolding matcher_at
 returns c =
     let a = c.args in
     let s = a.buf.now in
-    let now = c.mark_at-now.ensures ∙ ap mark_from (sym (now-place a.format s (levels a.signature.length))) in
+    let now = c.mark_at.ensures ∙ ap mark_from (sym (now-place a.format s (levels a.signature.length))) in
     let stages =
     c.stages_at-stages.ensures
     ∙ ap (λ (k : ℕ). tabulate (stage_place (values_at s 0 (checkpoint_widths a.format k)) k) stage_count) c.levels.ensures

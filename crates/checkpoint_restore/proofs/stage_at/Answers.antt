@@ -7,12 +7,12 @@ pub returns : goal.returns
 returns c =
     let a = c.args in
     let size = c.mark_size-size.ensures in
-    let last = rw size at c.mark_at-last.ensures in
-    let step = rw size at c.gap_at-step.ensures in
+    let last = rw size at c.mark_at-2.ensures in
+    let step = rw size at c.gap_at.ensures in
     (λ i.
     record {
       held = c.word_at.ensures i;
-      first = c.mark_at-first.ensures i;
+      first = c.mark_at.ensures i;
       last = last i;
       step = step i;
     })
