@@ -2,7 +2,7 @@
 -- Assumes nothing.
 use Prim.Native.Nat.{ℕ, ◌+◌, ◌-◌, ◌*◌, ◌≤◌, ◌<◌}
 use mathlib.Core.Path.{◌≡◌, refl, sym, ◌∙◌, ap}
-use mathlib.Core.Bool.{true, false, cond}
+use mathlib.Core.Bool.{Bool, true, false, cond}
 use mathlib.Core.List.{List, [], ◌++◌, append-nil}
 use native.Mathlib.Omega.{arith}
 use lib.Dec.{eqb}
@@ -11,7 +11,9 @@ use lib.Seq.{drop-cons, drop-drop}
 use borrow.Author.Tests.{ne_eqb, leb-true, le-leb, lt-leb}
 use Rattle.lists.proofs.Laws.{and_right}
 use Rattle.refusal.specs.declared.Refusal.{Refusal}
-use Rattle.refusal.specs.declared.Verdict.TheVariants.{Accepted, Refused}
+use Rattle.std.specs.Prelude.{Result, Ok, Err}
+use Rattle.std.specs.Result.{is_err}
+use Rattle.refusal.proofs.Distinct.{refused-some}
 use Rattle.refusal.specs.Number.{number, refusal_number}
 use Rattle.stage.specs.Stage.{max_taken}
 use Rattle.matcher.specs.Matcher.{matcher_fits}
@@ -127,27 +129,40 @@ module _ (p₀ : Progress) (bytes entry : List ℕ) (p : Progress) (taken used :
 
   -- the buffer is full
   pub full :
-      taken < length bytes
+      (v : Result (Unit {0}) Refusal)
+      → number v ≡ 0
+      → taken < length bytes
       → length out < used + room
-      → Feeds (heard_while (room_in (length entry)) 0 p₀ bytes) entry (record { verdict = Accepted; progress = p; taken = taken; used = used }) out
+      → Feeds (heard_while (room_in (length entry)) 0 p₀ bytes) entry (record { verdict = v; progress = p; taken = taken; used = used }) out
   unfolding heard_while
-  full more l =
+  full v z more l =
       let none : heard_while (room_in (length entry)) used p (drop taken bytes) ≡ stopped p 0 =
       rw (drop-cons bytes taken 0 more, ← a.size, lt-leb (used + room) (length out) l) in
-      feeds _ entry out a.said p taken _ (a.same ∙ ap (behind taken a.said) none) refl refl a.place (rw a.place at a.front)
+      feeds _ entry out a.said p taken _ (rw z (a.same ∙ ap (behind taken a.said) none)) refl refl a.place (rw a.place at a.front)
       (rw a.place at a.rest)
 
 -- no byte is left
 pub used-up :
     (p₀ : Progress) (bytes entry : List ℕ) (p : Progress) (taken used : ℕ) (out : List ℕ)
     → Along p₀ bytes entry p taken used out
+    → (v : Result (Unit {0}) Refusal)
+    → number v ≡ 0
     → length bytes ≤ taken
-    → Feeds (heard_while (room_in (length entry)) 0 p₀ bytes) entry (record { verdict = Accepted; progress = p; taken = taken; used = used }) out
+    → Feeds (heard_while (room_in (length entry)) 0 p₀ bytes) entry (record { verdict = v; progress = p; taken = taken; used = used }) out
 unfolding heard_while
-used-up p₀ bytes entry p taken used out a l =
+used-up p₀ bytes entry p taken used out a v z l =
     let none : heard_while (room_in (length entry)) used p (drop taken bytes) ≡ stopped p 0 = rw (drop_of_length-le bytes l) in
-    feeds _ entry out a.said p taken _ (a.same ∙ ap (behind taken a.said) none) refl refl a.place (rw a.place at a.front)
+    feeds _ entry out a.said p taken _ (rw z (a.same ∙ ap (behind taken a.said) none)) refl refl a.place (rw a.place at a.front)
     (rw a.place at a.rest)
+
+-- what the test of a verdict tells
+pub err-some : (v : Result (Unit {0}) Refusal) → is_err v ≡ true → number v ≡ 0 → ⊥
+err-some (Ok x) e z = let w : ◌≡◌ {A = Bool} false true = e in cc
+err-some (Err r) e z = refused-some {A = Unit {0}} {v = Err r} refl z
+
+pub err-none : (v : Result (Unit {0}) Refusal) → is_err v ≡ false → number v ≡ 0
+err-none (Ok x) e = refl
+err-none (Err r) e = let w : ◌≡◌ {A = Bool} true false = e in cc
 
 -- The tests before the first turn.
 module _ (size : ℕ) (p : Progress) (bytes : List ℕ) where
@@ -166,6 +181,6 @@ module _ (size : ℕ) (p : Progress) (bytes : List ℕ) where
 pub not-fed :
     (h : Heard) (entry : List ℕ) (p : Progress) (refusal : Refusal) (r : Fed)
     → h ≡ stopped p (refusal_number refusal)
-    → r ≡ record { verdict = Refused refusal; progress = p; taken = 0; used = 0 }
+    → r ≡ record { verdict = Err refusal; progress = p; taken = 0; used = 0 }
     → Feeds h entry r entry
 not-fed h entry p refusal r e q = rw (e, q) (record { verdict = refl; progress = refl; taken = refl; used = refl; buffer = refl })

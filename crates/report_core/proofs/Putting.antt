@@ -10,11 +10,7 @@ use lib.ListN.{length, take, drop, length-append, take-append-drop}
 use lib.Seq.{drop-drop, take_at, drop_at, length-take-le}
 use borrow.Author.Tests.{le-leb, lt-leb, ne_eqb}
 use Rattle.decimal.specs.Decimal.{put_limit}
-use Rattle.report_lines.specs.declared.Put.{Put}
-use Rattle.report_lines.specs.declared.Put.TheVariants.{Full, Next}
-use Rattle.refusal.specs.declared.Verdict.{Verdict}
-use Rattle.refusal.specs.declared.Verdict.TheVariants.{Accepted}
-use Rattle.refusal.specs.Number.{number}
+use Rattle.std.specs.Prelude.{Option, Some, None}
 use Rattle.report_lines.specs.Lines.{line_x, line_e, room, placed, written}
 use Rattle.report_lines.proofs.Room.{refusal-length}
 use Rattle.report_core.specs.Calls.{last_lines, last_placed, last_written}
@@ -45,7 +41,7 @@ module _ (entry : List ℕ) (at : ℕ) (lines : List ℕ) where
 
   -- where there is room
   module _ (r : at + room ≤ length entry) where
-    pub placed-next : placed entry at lines ≡ Next (at + length lines)
+    pub placed-next : placed entry at lines ≡ Some (at + length lines)
     unfolding placed
     placed-next = rw (le-leb (at + room) (length entry) r)
 
@@ -54,7 +50,7 @@ module _ (entry : List ℕ) (at : ℕ) (lines : List ℕ) where
     put-done exit w = laid exit (omega arith) (rw (le-leb (at + room) (length entry) r) at w)
 
   -- and where there is none
-  placed-full : length entry < at + room → placed entry at lines ≡ Full
+  placed-full : length entry < at + room → placed entry at lines ≡ None
   unfolding placed
   placed-full l = rw (lt-leb (at + room) (length entry) l)
 
@@ -62,7 +58,7 @@ module _ (entry : List ℕ) (at : ℕ) (lines : List ℕ) where
       (exit : List ℕ)
       → exit ≡ written entry at lines
       → (end : ℕ)
-      → Next end ≡ placed entry at lines
+      → Some end ≡ placed entry at lines
       → PutAt entry at lines end exit
   put-at exit w end p =
       elim (dec_le (at + room) (length entry)) [
@@ -91,20 +87,20 @@ put-again entry at first second n end middle exit a b =
 -- The last lines, where they have room and where not.
 module _ (entry lines : List ℕ) where
   last-put :
-      (end : ℕ) (exit : List ℕ) (put : Put)
+      (end : ℕ) (exit : List ℕ) (put : Option ℕ)
       → 2 * room ≤ length entry
       → PutAt entry 0 lines end exit
-      → put ≡ Next end
+      → put ≡ Some end
       → (put ≡ last_placed entry lines) × (exit ≡ last_written entry lines)
   unfolding last_placed last_written
   last-put end exit put r u e =
       let place : end ≡ length lines = omega (arith, u.place) in
       rw (le-leb (2 * room) (length entry) r)
-      (e ∙ ap Next place, sym (take-append-drop end exit) ∙ rw (u.front, u.behind, place))
+      (e ∙ ap Some place, sym (take-append-drop end exit) ∙ rw (u.front, u.behind, place))
 
   pub last-at :
       (end : ℕ) (exit : List ℕ)
-      → Next end ≡ last_placed entry lines
+      → Some end ≡ last_placed entry lines
       → exit ≡ last_written entry lines
       → PutAt entry 0 lines end exit
   unfolding last_placed last_written
@@ -122,13 +118,13 @@ module _ (entry lines : List ℕ) where
             absurd (omega arith)
       ]
 
-  pub last-full : length entry < 2 * room → (Full ≡ last_placed entry lines) × (entry ≡ last_written entry lines)
+  pub last-full : length entry < 2 * room → (None ≡ last_placed entry lines) × (entry ≡ last_written entry lines)
   unfolding last_placed last_written
   last-full l = rw (lt-leb (2 * room) (length entry) l) (refl, refl)
 
 module _ (entry : List ℕ) (r : 2 * room ≤ length entry) where
   pub last_one :
-      (lines exit : List ℕ) (put : Put)
+      (lines exit : List ℕ) (put : Option ℕ)
       → put ≡ placed entry 0 lines
       → exit ≡ written entry 0 lines
       → (put ≡ last_placed entry lines) × (exit ≡ last_written entry lines)
@@ -136,9 +132,9 @@ module _ (entry : List ℕ) (r : 2 * room ≤ length entry) where
       last-put entry lines _ exit put r (put-done entry 0 lines (omega arith) exit w) (p ∙ placed-next entry 0 lines (omega arith))
 
   pub last-two :
-      (n : ℕ) (second middle exit : List ℕ) (next : ℕ) (put : Put)
+      (n : ℕ) (second middle exit : List ℕ) (next : ℕ) (put : Option ℕ)
       → n < put_limit
-      → Next next ≡ placed entry 0 (line_x n)
+      → Some next ≡ placed entry 0 (line_x n)
       → middle ≡ written entry 0 (line_x n)
       → length middle ≡ length entry
       → put ≡ placed middle next second
@@ -151,12 +147,11 @@ module _ (entry : List ℕ) (r : 2 * room ≤ length entry) where
       (put-again entry 0 (line_x n) second next _ middle exit first (put-done middle next second left exit v))
       (q ∙ placed-next middle next second left)
 
--- the last lines, by the verdict
-pub last-accepted : (v : Verdict) (t total : ℕ) → v ≡ Accepted → last_lines (number v) t total ≡ line_e t total
+-- the last lines, of a refusal
+pub last-refused : (n t total : ℕ) → (n ≡ 0 → ⊥) → last_lines n t total ≡ line_x n ++ line_e t total
 unfolding last_lines
-last-accepted v t total e = rw e
+last-refused n t total z = rw (ne_eqb n 0 z)
 
-pub last-refused :
-    (v : Verdict) (t total : ℕ) → (number v ≡ 0 → ⊥) → last_lines (number v) t total ≡ line_x (number v) ++ line_e t total
+pub last-accepted : (t total : ℕ) → last_lines 0 t total ≡ line_e t total
 unfolding last_lines
-last-refused v t total n = rw (ne_eqb (number v) 0 n)
+last-accepted t total = refl

@@ -3,14 +3,17 @@
 use Prim.Native.Nat.{ℕ, ◌+◌, ◌*◌, ◌≤◌}
 use mathlib.Core.Path.{◌≡◌, refl, sym, ◌∙◌, ap}
 use mathlib.Core.Logic.{◌⊎◌, inl, inr}
-use mathlib.Core.Bool.{true}
+use mathlib.Core.Bool.{true, false}
 use mathlib.Core.List.{List, [], ◌∷◌, ◌++◌, append_assoc, append-nil}
 use native.Mathlib.Omega.{arith}
 use lib.Dec.{ltb, eqb}
 use lib.ListN.{length, drop, drop_of_length-le, length-take, length-append}
 use lib.Seq.{take-append-le, drop-append-le}
 use borrow.Author.Tests.{eqb-true, eqb-false, ne_eqb, le-leb, ltb-false}
-use Rattle.refusal.specs.Number.{number}
+use Rattle.std.specs.Prelude.{Ok, Err}
+use Rattle.refusal.specs.declared.Refusal.{Refusal}
+use Rattle.refusal.specs.Number.{refusal_number}
+use Rattle.refusal.proofs.Distinct.{refused-some}
 use Rattle.matcher.specs.Matcher.{fresh, fresh_refusal}
 use Rattle.matcher.specs.Stroke.{stroke_refusal}
 use Rattle.lists.proofs.Cases.{by-test}
@@ -84,6 +87,10 @@ module _ (s : List ℕ) where
       (λ f. rw (accepted-head e, f) (and_right (eqb (length_field s) (signature_length (levels (pattern_length s)))) (signature_fits (signature_at s)) f))
       (λ f. absurd (omega (arith, rw (accepted-head e, f) at e)))
 
+  -- a card that is read starts a watch
+  pub read-starts : read_refusal s ≡ 0 → fresh_refusal (read_signature s) ≡ 0
+  read-starts e = rw (read_fits e)
+
 -- t is 0 at a fresh watch
 fresh-origin : (s : Signature) → (fresh s).now.at ≡ 0
 unfolding fresh
@@ -94,51 +101,55 @@ front_of : (chunk rest : List ℕ) → (card_bytes ≤ length chunk) ⊎ (rest �
 front_of chunk rest (inl l) = take-append-le card_bytes chunk rest l
 front_of chunk rest (inr e) = rw (e, append-nil)
 
-module _ (chunk : List ℕ) (b : Begun) (q : Begins chunk b) where
+-- the card is refused: nothing was written
+pub sent-refused :
+    (chunk : List ℕ) (refusal : Refusal) (p : Progress)
+    → Begins chunk (Err refusal)
+    → p.matcher.now.at ≡ 0
+    → p.total ≡ 0
+    → Sent chunk (refusal_number refusal) p (length chunk) 0
+unfolding pending output
+sent-refused chunk refusal p q at total =
+    let some : eqb (refusal_number refusal) 0 ≡ false = ne_eqb _ _ (refused-some {A = Unit {0}} {v = Err refusal} refl) in
+    record {
+      said = [];
+      all_read = refl;
+      all-written = refl;
+      lines = λ rest enough.
+          rw (front_of chunk rest enough, ← q.verdict, some, at, total) refl;
+    }
+
+module _ (chunk : List ℕ) (b : Begun) (q : Begins chunk (Ok b)) where
   pub taken-within : b.taken ≤ length chunk
   taken-within = rw q.taken (omega (arith, read-within (front chunk), length-take card_bytes chunk))
 
   -- the progress of a card that is read is no misfit
-  pub begun-fits : number b.verdict ≡ 0 → progress_fits b.progress ≡ true
-  begun-fits z =
+  pub begun-fits : progress_fits b.progress ≡ true
+  begun-fits =
       let card = read_signature (front chunk) in
       rw q.progress
-      (and_both (fresh-fits card (read_fits (front chunk) (sym q.verdict ∙ z)))
+      (and_both (fresh-fits card (read_fits (front chunk) (sym q.verdict)))
       (le-leb 0 (most_comparisons * (fresh card).now.at) (omega arith)))
 
   begun-output :
       (rest : List ℕ)
       → (card_bytes ≤ length chunk) ⊎ (rest ≡ [])
-      → output (chunk ++ rest) ≡ pending (number b.verdict) b.progress (drop b.taken chunk ++ rest)
+      → output (chunk ++ rest) ≡ pending 0 b.progress (drop b.taken chunk ++ rest)
   unfolding pending output
   begun-output rest enough =
       let within = drop-append-le (read_taken (front chunk)) chunk rest (omega (arith, read-within (front chunk), length-take card_bytes chunk)) in
-      rw (q.verdict, q.progress, q.taken, front_of chunk rest enough, within, fresh-origin (read_signature (front chunk)))
-
-  -- the card is refused: nothing was written
-  pub sent-refused : (number b.verdict ≡ 0 → ⊥) → Sent chunk (number b.verdict) b.progress (length chunk) 0
-  sent-refused n =
-      record {
-        said = [];
-        all_read = refl;
-        all-written = refl;
-        lines = λ rest enough. begun-output rest enough
-            ∙ pending-refused (number b.verdict) b.progress _ (ne_eqb _ _ n)
-            ∙ sym (pending-refused (number b.verdict) b.progress rest (ne_eqb _ _ n));
-      }
+      rw (q.progress, q.taken, front_of chunk rest enough, ← q.verdict, within, fresh-origin (read_signature (front chunk)))
 
   -- the card is read, and what of the stream came with it
   pub sent-first :
-      number b.verdict ≡ 0
-      → let h = heard b.progress (drop b.taken chunk) in
+      let h = heard b.progress (drop b.taken chunk) in
       Sent chunk h.refusal h.progress (length chunk) (length h.lines)
-  sent-first z =
+  sent-first =
       record {
         said = (heard b.progress (drop b.taken chunk)).lines;
         all_read = refl;
         all-written = refl;
-        lines = λ rest enough. begun-output rest enough
-            ∙ rw z (heard-pending b.progress (drop b.taken chunk) rest);
+        lines = λ rest enough. begun-output rest enough ∙ heard-pending b.progress (drop b.taken chunk) rest;
       }
 
 -- a chunk more

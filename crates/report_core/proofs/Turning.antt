@@ -6,7 +6,7 @@ use mathlib.Core.Bool.{true}
 use mathlib.Core.List.{List, ◌++◌}
 use native.Mathlib.Omega.{arith}
 use lib.ListN.{length, take, drop, get_or, length-append, length-drop, get_or-append}
-use lib.Seq.{drop-cons, drop-drop, take-append_seam, take-append-le}
+use lib.Seq.{drop-cons, drop-drop, length-take-le, take-append_seam, take-append-le}
 use borrow.Author.Tests.{le-leb}
 use Rattle.decimal.specs.Decimal.{put_limit}
 use Rattle.refusal.specs.Number.{number}
@@ -14,9 +14,9 @@ use Rattle.stage.specs.Stage.{max_taken}
 use Rattle.scanner.specs.declared.Ended.{Ended}
 use Rattle.notes.specs.Notes.{note_size, note_room}
 use Rattle.scanner.specs.Scan.{Scanned, scanned, scan_of}
-use Rattle.report_lines.specs.declared.Put.TheVariants.{Full, Next}
+use Rattle.std.specs.Prelude.{Some, None}
 use Rattle.report_lines.specs.Sizes.{most_line}
-use Rattle.report_lines.specs.Lines.{note_lines, has_notes_room, notes_placed, notes_written}
+use Rattle.report_lines.specs.Lines.{room, note_lines, has_notes_room, notes_placed, notes_written}
 use Rattle.report_core.specs.declared.Progress.{Progress}
 use Rattle.report_core.specs.Progress.{most_comparisons}
 use Rattle.report_core.specs.Turn.{Turns}
@@ -24,20 +24,49 @@ use Rattle.report_core.proofs.Hearing.{scan-same, Enough, Small, heard-scan}
 use Rattle.report_core.proofs.Transcript.{Ran, ran}
 
 -- what scan promises, of the bytes from a place on and of the numbers lent to it, `lent` before the call and `left` behind it
-pub record Scans (p : Progress) (bytes : List ℕ) (from : ℕ) (lent : List ℕ) (s : Ended) (left : List ℕ) : Type 0 where
-  pub matcher : s.matcher ≡ (scan_of (length lent) p.matcher (drop from bytes)).matcher
-  pub noted : s.noted ≡ length (scan_of (length lent) p.matcher (drop from bytes)).notes
-  pub notes :
-      left
-      ≡ (scan_of (length lent) p.matcher (drop from bytes)).notes
-      ++ drop (length (scan_of (length lent) p.matcher (drop from bytes)).notes) lent
-  pub comparisons : s.comparisons ≡ (scan_of (length lent) p.matcher (drop from bytes)).comparisons
-  pub next : s.next ≡ from + (scan_of (length lent) p.matcher (drop from bytes)).taken
-  pub verdict : number s.verdict ≡ (scan_of (length lent) p.matcher (drop from bytes)).refusal
+abbrev pub Scans : Progress → List ℕ → ℕ → List ℕ → Ended → List ℕ → Type 0
+Scans p bytes from lent s left =
+    let r = scan_of (length lent) p.matcher (drop from bytes) in
+    record {
+      matcher : s.matcher ≡ r.matcher;
+      noted : s.noted ≡ length r.notes;
+      notes : left ≡ r.notes ++ drop (length r.notes) lent;
+      comparisons : s.comparisons ≡ r.comparisons;
+      next : s.next ≡ from + r.taken;
+      verdict : number s.verdict ≡ r.refusal;
+    }
 
-module _ (p : Progress) (bytes : List ℕ) (taken used : ℕ) (out lent : List ℕ) (s : Ended) (left : List ℕ)
-    (more : taken < length bytes) (low : note_room ≤ length lent) (enough : Enough (length out) (length lent) used 0)
-    (q : Scans p bytes taken lent s left) (kept : length left ≡ length lent) where
+-- what a turn requires, and what its share promises
+abbrev pub Turnable : Progress → List ℕ → ℕ → ℕ → List ℕ → List ℕ → Type 0
+Turnable p bytes taken used out notes =
+    (taken < length bytes)
+    × (used + room ≤ length out)
+    × (note_room ≤ length notes)
+    × (p.matcher.now.at ≤ max_taken)
+    × (p.total ≤ most_comparisons * p.matcher.now.at)
+
+abbrev pub Shared : ℕ → ℕ → ℕ → Type 0
+Shared cap free most =
+    (note_room ≤ cap) × (cap ≤ most) × (note_size * room + most_line * cap ≤ note_size * free + most_line * note_room)
+
+module _ (p : Progress) (bytes : List ℕ) (taken used : ℕ) (out notes : List ℕ) (cap : ℕ) (s : Ended) (left : List ℕ)
+    (pre : Turnable p bytes taken used out notes) (share : Shared cap (length out - used) (length notes))
+    (q : Scans p bytes taken (take cap notes) s left) (kept : length left ≡ length (take cap notes)) where
+  abbrev lent : List ℕ
+  lent = take cap notes
+
+  more : taken < length bytes
+  more = pre.0
+
+  size : length lent ≡ cap
+  size = length-take-le cap notes share.1
+
+  low : note_room ≤ length lent
+  low = omega (arith, size, share.0)
+
+  enough : Enough (length out) (length lent) used 0
+  enough = omega (arith, size, share, pre)
+
   abbrev run : Scanned
   run = scanned (length lent) 0 p.matcher (drop taken bytes)
 
@@ -68,7 +97,7 @@ module _ (p : Progress) (bytes : List ℕ) (taken used : ℕ) (out lent : List �
   roomy : has_notes_room out used run.notes ≡ true
   roomy = le-leb (used + most_line * (length run.notes / note_size)) (length out) (omega (arith, few, enough))
 
-  pub never-full : (notes : List ℕ) → notes ≡ run.notes → Full ≡ notes_placed out used notes → ⊥
+  pub never-full : (notes : List ℕ) → notes ≡ run.notes → None ≡ notes_placed out used notes → ⊥
   unfolding notes_placed
   never-full notes e f =
       let f' = rw (e, roomy) at f in
@@ -78,42 +107,41 @@ module _ (p : Progress) (bytes : List ℕ) (taken used : ℕ) (out lent : List �
   went : Ran (length lent) 0 p.matcher (drop taken bytes) run
   went = ran (length lent) 0 p.matcher (drop taken bytes)
 
-  module _ (limit : p.matcher.now.at ≤ max_taken) (total : p.total ≤ most_comparisons * p.matcher.now.at) where
-    pub turn-limit : s.matcher.now.at ≤ max_taken
-    turn-limit = rw (q.matcher, here) (went.within limit)
+  pub turn-limit : s.matcher.now.at ≤ max_taken
+  turn-limit = rw (q.matcher, here) (went.within pre.3)
 
-    pub turn-total : p.total + s.comparisons ≤ most_comparisons * s.matcher.now.at
-    turn-total = rw (q.matcher, q.comparisons, here) (omega (arith, total, went.later, went.few))
+  pub turn-total : p.total + s.comparisons ≤ most_comparisons * s.matcher.now.at
+  turn-total = rw (q.matcher, q.comparisons, here) (omega (arith, pre.4, went.later, went.few))
 
-    pub turns :
-        Small (length out) (length lent) run.notes
-        → (notes : List ℕ) (end : ℕ) (exit : List ℕ)
-        → notes ≡ run.notes
-        → Next end ≡ notes_placed out used notes
-        → exit ≡ notes_written out used notes
-        → Turns p bytes taken used out
-        (record {
-          verdict = s.verdict;
-          progress = record { matcher = s.matcher; total = p.total + s.comparisons };
-          taken = s.next;
-          used = end;
-        }) exit
-    unfolding notes_placed notes_written
-    turns small notes end exit n placed written =
-        let placed' = rw (n, roomy) at placed in
-        let e : end ≡ used + length (note_lines run.notes) = cc in
-        let taken_is : s.next ≡ taken + run.taken = rw here at q.next in
-        record {
-          lines = note_lines run.notes;
-          same =
-              let ahead : taken + run.taken - taken ≡ run.taken = omega arith in
-              rw (e, taken_is, ahead, q.matcher, q.comparisons, q.verdict, here, ← drop-drop run.taken taken bytes)
-              (heard-scan (length out) (length lent) (drop taken bytes) used 0 p enough small);
-          onward = omega (arith, taken_is);
-          moves =
-              λ z. omega (arith, taken_is, went.moves (omega (arith, low)) (rw length-drop (omega arith)) (sym (rw here at q.verdict) ∙ z));
-          place = e;
-          buffer = rw (n, roomy) at written;
-          limit = turn-limit;
-          fits = turn-total;
-        }
+  pub turns :
+      Small (length out) (length lent) run.notes
+      → (notes : List ℕ) (end : ℕ) (exit : List ℕ)
+      → notes ≡ run.notes
+      → Some end ≡ notes_placed out used notes
+      → exit ≡ notes_written out used notes
+      → Turns p bytes taken used out
+      (record {
+        verdict = s.verdict;
+        progress = record { matcher = s.matcher; total = p.total + s.comparisons };
+        taken = s.next;
+        used = end;
+      }) exit
+  unfolding notes_placed notes_written
+  turns small notes end exit n placed written =
+      let placed' = rw (n, roomy) at placed in
+      let e : end ≡ used + length (note_lines run.notes) = cc in
+      let taken_is : s.next ≡ taken + run.taken = rw here at q.next in
+      record {
+        lines = note_lines run.notes;
+        same =
+            let ahead : taken + run.taken - taken ≡ run.taken = omega arith in
+            rw (e, taken_is, ahead, q.matcher, q.comparisons, q.verdict, here, ← drop-drop run.taken taken bytes)
+            (heard-scan (length out) (length lent) (drop taken bytes) used 0 p enough small);
+        onward = omega (arith, taken_is);
+        moves =
+            λ z. omega (arith, taken_is, went.moves (omega (arith, low)) (rw length-drop (omega arith)) (sym (rw here at q.verdict) ∙ z));
+        place = e;
+        buffer = rw (n, roomy) at written;
+        limit = turn-limit;
+        fits = turn-total;
+      }

@@ -1,10 +1,9 @@
 -- What the program's calls promise: the card is read, the lines of the stream are put into a lent buffer, and the last lines.
-use Rattle.std.specs.Prelude.{ℕ, ◌*◌, ◌≡◌, Bool, cond, List, ◌++◌, length, drop, leb, eqb}
+use Rattle.std.specs.Prelude.{ℕ, ◌*◌, ◌≡◌, Bool, cond, List, ◌++◌, length, drop, leb, eqb, Option, Some, None, Result, IfOk}
+use Rattle.refusal.specs.declared.Refusal.{Refusal}
 use Rattle.refusal.specs.Number.{number}
 use Rattle.matcher.specs.Matcher.{fresh}
 use Rattle.card_record.specs.Calls.{read_refusal, read_signature, read_taken}
-use Rattle.report_lines.specs.declared.Put.{Put}
-use Rattle.report_lines.specs.declared.Put.TheVariants.{Full, Next}
 use Rattle.report_lines.specs.Lines.{line_x, line_e, room}
 use Rattle.report_core.specs.declared.Begun.{Begun}
 use Rattle.report_core.specs.declared.Fed.{Fed}
@@ -12,10 +11,10 @@ use Rattle.report_core.specs.Output.{front}
 use Rattle.report_core.specs.Progress.{Heard}
 
 -- The card is judged on the front of the input, and its watch is fresh.
-pub record Begins (input : List ℕ) (r : Begun) : Type 0 where
-  pub verdict : number r.verdict ≡ read_refusal (front input)
-  pub progress : r.progress ≡ record { matcher = fresh (read_signature (front input)); total = 0 }
-  pub taken : r.taken ≡ read_taken (front input)
+pub record Begins (input : List ℕ) (r : Result Begun Refusal) : Type 0 where
+  pub verdict : number r ≡ read_refusal (front input)
+  pub progress : IfOk r (λ b. b.progress ≡ record { matcher = fresh (read_signature (front input)); total = 0 })
+  pub taken : IfOk r (λ b. b.taken ≡ read_taken (front input))
 
 -- Bytes bring h: its lines stand at the buffer's front, and behind them the buffer is as it was.
 pub record Feeds (h : Heard) (entry : List ℕ) (r : Fed) (exit : List ℕ) : Type 0 where
@@ -34,8 +33,8 @@ last_lines refusal t total = cond (eqb refusal 0) (line_e t total) (line_x refus
 abbrev pub has_last_room : List ℕ → Bool
 has_last_room out = leb (2 * room) (length out)
 
-unfoldable pub last_placed : List ℕ → List ℕ → Put
-last_placed out lines = cond (has_last_room out) (Next (length lines)) Full
+unfoldable pub last_placed : List ℕ → List ℕ → Option ℕ
+last_placed out lines = cond (has_last_room out) (Some (length lines)) None
 
 unfoldable pub last_written : List ℕ → List ℕ → List ℕ
 last_written out lines = cond (has_last_room out) (lines ++ drop (length lines) out) out

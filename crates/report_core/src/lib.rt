@@ -1,8 +1,7 @@
 // What the printing program prints (document 01, "The printing program"): the card, the stream chunk by chunk, and the last lines.
 #![tactic(auto)]
 
-ghost use Rattle.std.specs.Prelude.{◌≡◌, true, ◌+◌, ◌*◌, ◌≤◌, ◌<◌, length};
-ghost use Rattle.refusal.specs.declared.Verdict.TheVariants.{Refused};
+ghost use Rattle.std.specs.Prelude.{◌≡◌, true, ◌+◌, ◌*◌, ◌≤◌, ◌<◌, length, Err};
 ghost use Rattle.refusal.specs.Number.{number};
 ghost use Rattle.report_core.specs.Output.{front};
 ghost use Rattle.stage.specs.Stage.{max_taken};
@@ -17,7 +16,7 @@ use card_record::read_signature;
 use matcher::Matcher;
 use notes::{NOTE, NOTE_ROOM};
 use refusal::{Refusal, Verdict};
-use report_lines::{MOST_LINE, Put, ROOM, put_end, put_notes, put_refusal};
+use report_lines::{MOST_LINE, ROOM, put_end, put_notes, put_refusal};
 use stage::STAGES;
 
 // The longest card record.
@@ -39,10 +38,9 @@ pub struct Progress {
     pub total: u64,
 }
 
-// The card was read: why it was refused, if it was; how far the program has come; and how many bytes the card took, 0 where it is refused.
+// The card was read: how far the program has come, and how many bytes the card took.
 #[derive(Clone, Copy)]
 pub struct Begun {
-    pub verdict: Verdict,
     pub progress: Progress,
     pub taken: usize,
 }
@@ -58,29 +56,23 @@ pub struct Fed {
 }
 
 // The bytes on which the card is judged.
+#[tactic(auto, using(std::proofs::lemmas::List::take_min))]
 fn front(input: &[u8]) -> &[u8]
     ensures { result.now ≡ front input.now }
 {
-    if input.len() < CARD_BYTES {
-        return input;
-    }
-    &input[..CARD_BYTES]
+    &input[..CARD_BYTES.min(input.len())]
 }
 
 // Reads the card at the front of the input, and starts its watch. Refusals: those of reading a card.
-pub fn begin(input: &[u8]) -> Begun
+pub fn begin(input: &[u8]) -> Result<Begun, Refusal>
     ensures { Begins input.now result }
 {
-    let card = read_signature(front(input));
-    let signature = card.signature;
-    let started = Matcher::start(signature);
-    let matcher = started.matcher;
-    let verdict = card.verdict;
-    Begun {
-        verdict,
+    let card = read_signature(front(input))?;
+    let matcher = Matcher::start(card.signature)?;
+    Ok(Begun {
         progress: Progress { matcher, total: 0 },
         taken: card.taken,
-    }
+    })
 }
 
 impl Progress {
@@ -88,21 +80,16 @@ impl Progress {
     pub fn fits(self) -> bool
         ensures { result ≡ progress_fits self }
     {
-        let matcher = self.matcher;
-        let t = matcher.now.at;
-        if !matcher.fits() {
-            return false;
-        }
-        self.total <= MOST_COMPARISONS * t
+        self.matcher.fits() && self.total <= MOST_COMPARISONS * self.matcher.now.at
     }
 }
 
 // No byte is taken, and nothing is put.
 fn unfed(progress: Progress, refusal: Refusal) -> Fed
-    ensures { result ≡ record { verdict = Refused refusal; progress = progress; taken = 0; used = 0 } }
+    ensures { result ≡ record { verdict = Err refusal; progress = progress; taken = 0; used = 0 } }
 {
     Fed {
-        verdict: Verdict::Refused(refusal),
+        verdict: Err(refusal),
         progress,
         taken: 0,
         used: 0,
@@ -117,76 +104,54 @@ fn share(free: usize, most: usize) -> usize
 {
     let lines = (free - ROOM) / MOST_LINE;
     let places = (most - NOTE_ROOM) / NOTE;
-    if lines < places {
-        return NOTE_ROOM + NOTE * lines;
-    }
-    NOTE_ROOM + NOTE * places
+    NOTE_ROOM + NOTE * lines.min(places)
 }
 
-// Takes bytes from a place on, and puts their lines at a place of the buffer: until none is left, one is refused, or the numbers lent have no
-// room for the notes of one byte more. The buffer is never full, since the scan is lent its share alone.
-fn turn(
-    p: Progress,
-    bytes: &[u8],
-    taken: usize,
-    out: &mut [u8],
-    used: usize,
-    notes: &mut [u64],
-) -> Fed
-    requires { (taken < length bytes.now) × (used + room ≤ length out.old) × (note_room ≤ length notes.old) × (p.matcher.now.at ≤ max_taken) × (p.total ≤ most_comparisons * p.matcher.now.at) }
-    ensures { Turns p bytes.now taken used out.old result out.new }
+// Takes bytes behind those taken, and puts their lines behind those put: until none is left, one is refused, or the numbers lent have no room for
+// the notes of one byte more. The buffer is never full, since the scan is lent its share alone.
+fn turn(fed: Fed, bytes: &[u8], out: &mut [u8], notes: &mut [u64]) -> Fed
+    requires { (fed.taken < length bytes.now) × (fed.used + room ≤ length out.old) × (note_room ≤ length notes.old) × (fed.progress.matcher.now.at ≤ max_taken) × (fed.progress.total ≤ most_comparisons * fed.progress.matcher.now.at) }
+    ensures { Turns fed.progress bytes.now fed.taken fed.used out.old result out.new }
 {
-    let cap = share(out.len() - used, notes.len());
-    let w = p.matcher;
-    let scan = scanner::scan(w, bytes, taken, &mut notes[..cap]);
-    let noted = scan.noted;
-    let put = put_notes(out, used, &notes[..noted]);
-    let Put::Next(end) = put else {
-        return unfed(p, Refusal::NoSpace);
+    let Progress { matcher, total } = fed.progress;
+    let cap = share(out.len() - fed.used, notes.len());
+    let scan = scanner::scan(matcher, bytes, fed.taken, &mut notes[..cap]);
+    let Some(used) = put_notes(out, fed.used, &notes[..scan.noted]) else {
+        return unfed(fed.progress, Refusal::NoSpace);
     };
-    let matcher = scan.matcher;
-    let total = p.total + scan.comparisons;
-    let verdict = scan.verdict;
     Fed {
-        verdict,
-        progress: Progress { matcher, total },
+        verdict: scan.verdict,
+        progress: Progress {
+            matcher: scan.matcher,
+            total: total + scan.comparisons,
+        },
         taken: scan.next,
-        used: end,
+        used,
     }
 }
 
 // Turn after turn: until no byte is left, the buffer has no room for the lines of one byte more, or a byte is refused.
-fn hear(progress: Progress, bytes: &[u8], out: &mut [u8], notes: &mut [u64]) -> Fed
-    requires { (progress_fits progress ≡ true) × (note_room ≤ length notes.old) }
+fn hear(progress: Progress, bytes: &[u8], out: &mut [u8]) -> Fed
+    requires { progress_fits progress ≡ true }
     ensures { Feeds (heard_while (room_in (length out.old)) 0 progress bytes.now) out.old result out.new }
 {
-    let mut p = progress;
-    let mut taken: usize = 0;
-    let mut used: usize = 0;
-    while taken < bytes.len() {
-        if out.len() - used < ROOM {
-            return Fed {
-                verdict: Verdict::Accepted,
-                progress: p,
-                taken,
-                used,
-            };
-        }
-        let fed = turn(p, bytes, taken, out, used, notes);
-        let verdict = fed.verdict;
-        if let Verdict::Refused(_) = verdict {
+    let mut notes = [0u64; NOTES];
+    let mut fed = Fed {
+        verdict: Ok(()),
+        progress,
+        taken: 0,
+        used: 0,
+    };
+    while fed.taken < bytes.len() {
+        if out.len() - fed.used < ROOM {
             return fed;
         }
-        p = fed.progress;
-        taken = fed.taken;
-        used = fed.used;
+        fed = turn(fed, bytes, out, &mut notes);
+        if fed.verdict.is_err() {
+            return fed;
+        }
     }
-    Fed {
-        verdict: Verdict::Accepted,
-        progress: p,
-        taken,
-        used,
-    }
+    fed
 }
 
 // Takes bytes, and puts their lines at the front of the buffer: until none is left, the buffer has no room for the lines of one byte more, or a
@@ -200,24 +165,20 @@ pub fn feed(progress: Progress, bytes: &[u8], out: &mut [u8]) -> Fed
     if out.len() < ROOM {
         return unfed(progress, Refusal::NoSpace);
     }
-    let mut notes = [0u64; NOTES];
-    hear(progress, bytes, out, &mut notes)
+    hear(progress, bytes, out)
 }
 
 // Puts the last lines at the front of the buffer: what was refused, if something was, and t with the total.
-pub fn finish(verdict: Verdict, t: u64, total: u64, out: &mut [u8]) -> Put
+pub fn finish(verdict: Verdict, t: u64, total: u64, out: &mut [u8]) -> Option<usize>
     ensures value { result ≡ last_placed out.old (last_lines (number verdict) t total) }
     ensures out_after { out.new ≡ last_written out.old (last_lines (number verdict) t total) }
 {
     if out.len() < LAST_ROOM {
-        return Put::Full;
+        return None;
     }
-    let Verdict::Refused(refusal) = verdict else {
+    let Err(refusal) = verdict else {
         return put_end(out, 0, t, total);
     };
-    let put = put_refusal(out, 0, refusal.number());
-    let Put::Next(next) = put else {
-        return Put::Full;
-    };
+    let next = put_refusal(out, 0, refusal.number())?;
     put_end(out, next, t, total)
 }
