@@ -49,7 +49,8 @@ pub fn put_word(buf: &mut [u8], at: usize, value: u32)
     put(buf, at, Width::Word, value as u64);
 }
 
-// A key is one field.
+// A key is one field, and so is a fingerprint. (Each has a writer and a reader of its own: a trait for the two would be no plainer, since it
+// would say these lines again and the trait besides.)
 pub fn put_key(buf: &mut [u8], at: usize, key: Key)
     ensures { buf.new ≡ put_each buf.old at (key_fields key) }
 {
@@ -62,7 +63,6 @@ pub fn key_at(buf: &[u8], at: usize) -> Key
     Key::new(word_at(buf, at))
 }
 
-// A fingerprint is one field.
 pub fn put_print(buf: &mut [u8], at: usize, print: Fingerprint)
     ensures { buf.new ≡ put_each buf.old at (print_fields print) }
 {

@@ -48,18 +48,11 @@ pub fn levels(m: u32) -> u32
     k
 }
 
-// 2^0 to 2^31.
-const POWERS: [u32; 32] = [
-    1, 2, 4, 8, 16, 32, 64, 128, 256, 512, 1024, 2048, 4096, 8192, 16384, 32768, 65536, 131072,
-    262144, 524288, 1048576, 2097152, 4194304, 8388608, 16777216, 33554432, 67108864, 134217728,
-    268435456, 536870912, 1073741824, 2147483648,
-];
-
 // |P_i| of a pattern of m bytes: the smaller of 2^i and m.
 pub fn prefix_length(m: u32, i: u32) -> u32
     ensures { result ≡ prefix_length m i }
 {
-    if i < 32 { POWERS[i as usize].min(m) } else { m }
+    if i < 32 { (1 << i).min(m) } else { m }
 }
 
 // Whether `taken` bytes of a pattern of m bytes reach P_i, where k is its last.
