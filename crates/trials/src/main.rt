@@ -4,14 +4,15 @@
 // writes the cases and works out what must be printed.
 #![tactic(auto)]
 
-use crate::bytes::{front, part, plus};
-use crate::tally::{FAILURES, PLACES, count, item, say};
+ghost use Rattle.std.specs.Prelude.{◌<◌, length, IfSome};
+
+use crate::account::Case;
+use driver_input::until;
 use fields::{Width, number_at};
 use std::io;
 
 mod account; // account.rt: an answer, held against demand 3
-mod bytes; // bytes.rt: bytes at places
-mod passes; // passes.rt: a stream, cut by one rule after another
+mod passes; // passes.rt: a stream, cut in one place after another
 mod tally; // tally.rt: counters and a digest
 
 // The most bytes of all cases.
@@ -24,49 +25,47 @@ const LONGEST_PATTERN: usize = 4096;
 
 const LONGEST_STREAM: usize = 9000;
 
-// A number of 4 bytes at a place, 0 where there are fewer.
-fn word(input: &[u8], at: usize) -> u64 {
-    number_at(input, at, Width::Word)
-}
-
-// The place behind the case at a place; 0 where it is cut short or too long.
-fn end_of(input: &[u8], at: usize) -> usize {
-    let m = word(input, plus(at, 4)) as usize;
-    let n = word(input, plus(at, 8)) as usize;
-    let end = plus(plus(at, HEAD), plus(m, n));
-    if LONGEST_PATTERN < m || LONGEST_STREAM < n || input.len() < end {
-        return 0;
+// The case at the front, and what stands behind it; none where it is cut short or too long.
+fn next_case<'a>(input: &'a [u8]) -> Option<(Case<'a>, &'a [u8])>
+    ensures { IfSome result (λ r. length r.1.now < length input.now) }
+{
+    let m = number_at(input, 4, Width::Word) as usize;
+    let n = number_at(input, 8, Width::Word) as usize;
+    if LONGEST_PATTERN < m || LONGEST_STREAM < n || input.len() < HEAD + m + n {
+        return None;
     }
-    end
+    let (pattern, rest) = input[HEAD..].split_at(m);
+    let (stream, behind) = rest.split_at(n);
+    let key = (number_at(input, 0, Width::Word) % 4294967296) as u32;
+    Some((
+        Case {
+            pattern,
+            stream,
+            key,
+        },
+        behind,
+    ))
 }
 
-// Tries the case at a place, prints its line and hands back the failures.
-fn case(rt: &HostRuntime, input: &[u8], at: usize) -> io::Result<u32> {
-    let mut tally = [0u32; PLACES];
-    let key = (word(input, at) % 4294967296) as u32;
-    let first = plus(at, HEAD);
-    let pattern = part(input, first, word(input, plus(at, 4)) as usize);
-    let behind = plus(first, pattern.len());
-    let stream = part(input, behind, word(input, plus(at, 8)) as usize);
-    passes::all(pattern, stream, key, &mut tally);
-    item(rt, "", pattern.len() as u64)?;
-    item(rt, " ", stream.len() as u64)?;
-    say(rt, &tally)?;
-    Ok(count(&tally, FAILURES))
+// Tries a case, prints its line and hands back the failures.
+fn try_case(rt: &HostRuntime, case: Case) -> io::Result<u32> {
+    let tally = passes::all(case);
+    print!(rt; "{} {}", case.pattern.len(), case.stream.len())?;
+    tally.print(rt)?;
+    Ok(tally.failures)
 }
 
 // Case after case; hands back the failures. A case that is cut short or too long is one, and the last.
 fn run(rt: &HostRuntime, input: &[u8]) -> io::Result<u32> {
     let mut failures: u32 = 0;
-    let mut at: usize = 0;
-    while at < input.len() {
-        let next = end_of(input, at);
-        if next <= at {
+    let mut left = input;
+    while !left.is_empty() {
+        let Some((case, behind)) = next_case(left) else {
             println!(rt; "a case is cut short or too long")?;
             return Ok(failures.wrapping_add(1));
-        }
-        failures = failures.wrapping_add(case(rt, input, at)?);
-        at = next;
+        };
+        failures = failures.wrapping_add(try_case(rt, case)?);
+        left = behind;
     }
     Ok(failures)
 }
@@ -76,9 +75,9 @@ fn serve(rt: &HostRuntime, room: &mut [u8; ROOM]) -> io::Result<()> {
     println!(rt;
         "pattern stream passes cuts occurrences missed rings false sets aside comparisons digest failures"
     )?;
-    let got = descriptor::fill(&mut rt.stdin(), room);
-    item(rt, "failures ", run(rt, front(room, got.count))? as u64)?;
-    println!(rt; "")
+    let count = descriptor::fill(&mut rt.stdin(), room).unwrap_or_else(|failed| failed.count);
+    let failures = run(rt, until(room, count))?;
+    println!(rt; "failures {failures}")
 }
 
 fn main(rt: HostRuntime) -> io::Result<()> {

@@ -1,9 +1,0 @@
--- `trials::passes::is_card_of` is safe and ends.
-use Rattle.std.proofs.Common.{◌-◌}
-use Rattle.trials.proofs.passes.is_card_of.Given as goal
-
-abbrev pub invariant-loop-i : goal.invariant-loop-i
-invariant-loop-i l = Unit {0}
-
-abbrev pub decreases-loop-i : goal.decreases-loop-i
-decreases-loop-i l = 21 - l.i

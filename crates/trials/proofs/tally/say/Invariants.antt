@@ -1,9 +1,0 @@
--- `trials::tally::say` is safe and ends.
-use Rattle.std.proofs.Common.{◌-◌}
-use Rattle.trials.proofs.tally.say.Given as goal
-
-abbrev pub invariant-loop-i : goal.invariant-loop-i
-invariant-loop-i l = Unit {0}
-
-abbrev pub decreases-loop-i : goal.decreases-loop-i
-decreases-loop-i l = 11 - l.i
