@@ -3,7 +3,7 @@
 use Prim.Native.Nat.{ℕ, ◌+◌, ◌^◌, ◌<◌}
 use mathlib.Core.Path.{◌≡◌, ◌∙◌}
 use mathlib.Core.List.{List}
-use native.Mathlib.Nat.{not-suc-le-zero, two-pow-succ, pow-zero}
+use native.Mathlib.Nat.{two-pow-succ}
 use native.Mathlib.Numerals.{add-one}
 use native.Mathlib.Decide.{ℕ_discrete}
 use native.Mathlib.Omega.{arith}
@@ -19,12 +19,6 @@ pub record Doubling (key : Key) (n i : ℕ) (squares : List Power) (square : Pow
   pub size : length squares ≡ n
   pub filled : (j : ℕ) → j < i → get_or squares j no_power ≡ power key (2 ^ j)
   pub next : square ≡ power key (2 ^ i)
-
-pub doubling-begin :
-    (key : Key) (n : ℕ) (squares : List Power) (square : Power)
-    → length squares ≡ n → square ≡ power key 1 → Doubling key n 0 squares square
-doubling-begin key n squares square size e =
-    record { size = size; filled = λ j l. absurd (not-suc-le-zero l); next = rw pow-zero e }
 
 -- one place more
 pub doubling-step :

@@ -1,10 +1,9 @@
 -- `powers::squares` meets its contract: the loop doubles the exponent.
-use mathlib.Core.Path.{refl}
 use native.Mathlib.Omega.{arith}
 use Rattle.std.proofs.lemmas.List.{length-take-le}
 use Rattle.fingerprint.specs.declared.Power.{Power}
 use Rattle.ladder.proofs.Levels.{levels-bound}
-use Rattle.powers.proofs.Doubling.{doubling-begin, doubling-step}
+use Rattle.powers.proofs.Doubling.{doubling-step}
 use Rattle.powers.proofs.Digits.{table_filled}
 use Rattle.powers.proofs.squares.Goals as goal
 
@@ -13,9 +12,6 @@ slice_bounds-squares-end c = omega (arith, c.levels.ensures, levels-bound c.args
 
 pub slice_bounds-place-items-end : goal.slice_bounds-place-items-end
 slice_bounds-place-items-end c = omega (arith, length-take-le {A = Power}, c.levels.ensures, levels-bound c.args.most c.requires)
-
-pub loop-place-init : goal.loop-place-init
-loop-place-init c = doubling-begin _ _ _ _ refl c.power-square.ensures
 
 pub loop-place-preserved : goal.loop-place-preserved
 loop-place-preserved c =
