@@ -31,6 +31,7 @@ pub struct Restored {
     pub taken: usize,
 }
 
+// (A mark and a gap each have a reader: one for both would give their parts singly, and be no plainer.)
 fn mark_at(buf: &[u8], at: usize, format: Format) -> Mark
     requires { at ≤ longest_checkpoint Wide }
     ensures { result ≡ mark_from (values_at buf.now at (widths (mark_fields format origin))) }

@@ -18,6 +18,7 @@ use refusal::Refusal;
 use signature::levels;
 use stage::{Gap, Mark, Stage};
 
+// (A mark and a gap each have a writer, here and where they are read: one for both would take their parts singly, and be no plainer.)
 fn put_mark(buf: &mut [u8], at: usize, format: Format, mark: Mark)
     requires { at + mark_size format ≤ length buf.old }
     ensures { buf.new ≡ stamped buf.old at (mark_fields format mark) }
