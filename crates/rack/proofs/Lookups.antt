@@ -11,8 +11,20 @@ use lib.ListN.{get_or}
 use borrow.Author.Tests.{ltb-true, lt-ltb, eqb-true, eq-eqb, ne_eqb, not-true}
 use Rattle.lists.proofs.Laws.{and_left, and_right, every-at}
 use Rattle.lists.proofs.Cases.{by-test}
+use Rattle.std.specs.Prelude.{Option, None, Some}
+use Rattle.std.specs.Option.{is_some}
 use Rattle.rack_place.specs.declared.Place.{Place}
+use Rattle.rack_place.specs.Place.{in_rack}
 use Rattle.rack.specs.Rack.{rack_places, nowhere, is_free, apart, names_apart, has_name, first_place, place_of, free_place, is_in, place_named}
+
+-- What is found in a rack: whether something is, and where.
+pub in-rack-some : (x : ℕ) → is_some (in_rack x) ≡ ltb x rack_places
+in-rack-some x = by-test (ltb x rack_places) (λ e. rw e) (λ e. rw e)
+
+pub in-rack-at : (x : ℕ) {i : ℕ} → Some i ≡ in_rack x → (i ≡ x) × (ltb x rack_places ≡ true)
+in-rack-at x {i} e =
+    by-test (ltb x rack_places) (λ f. (let g : ◌≡◌ {A = Option ℕ} (Some i) (Some x) = rw f at e in cc, f))
+    (λ f. absurd (let g : ◌≡◌ {A = Option ℕ} (Some i) None = rw f at e in cc))
 
 -- Whether a place has a card under a name.
 module _ (name : ℕ) (p : Place) where

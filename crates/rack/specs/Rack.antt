@@ -7,10 +7,9 @@ use Rattle.signature.specs.declared.Signature.{Signature}
 use Rattle.signature.specs.Signature.{signature_fits}
 use Rattle.stage.specs.declared.Mark.{Mark}
 use Rattle.matcher.specs.declared.Matcher.{Matcher}
-use Rattle.stage.specs.Stage.{max_taken, origin, now_fits}
+use Rattle.stage.specs.Stage.{max_taken, origin, now_fits, next_mark}
 use Rattle.stage.specs.Stages.{no_stages, stages_fit}
 pub use Rattle.stage.specs.Stages.{listed_from, all_from}
-use Rattle.walk.specs.Walk.{next_mark}
 use Rattle.matcher.specs.Stroke.{stroke_answer, after_stroke}
 pub use Rattle.rack_names.specs.Names.{rack_places, name_count}
 use Rattle.rack_place.specs.declared.Place.{Place}
