@@ -2,7 +2,7 @@
 -- Assumes nothing.
 use Prim.Native.Nat.{ℕ, ◌+◌, ◌-◌, ◌≤◌, ◌<◌}
 use mathlib.Core.Path.{◌≡◌, refl, sym, ◌∙◌, ap}
-use mathlib.Core.Bool.{true, cond}
+use mathlib.Core.Bool.{Bool, true, false, ◌&&◌, cond}
 use mathlib.Core.List.{List, [], ◌++◌, append-nil}
 use native.Mathlib.Decide.{dec_lt}
 use native.Mathlib.Omega.{arith}
@@ -19,7 +19,15 @@ use Rattle.report_core.specs.Calls.{Feeds}
 use Rattle.report_core.proofs.Hearing.{heard-by, behind-behind, heard-moves, heard-within, heard-later, heard-none, heard-fits, heard-piece}
 use Rattle.report_core.proofs.Feeding.{fed-on}
 use Rattle.report_loop.specs.declared.State.{State}
-use Rattle.report_loop.specs.State.{buffer_size, Sound, Took}
+use Rattle.report_loop.specs.State.{buffer_size, Sound, Went}
+
+and_true : (b : Bool) → b && true ≡ b
+and_true true = refl
+and_true false = refl
+
+and_false : (b : Bool) → b && false ≡ false
+and_false true = refl
+and_false false = refl
 
 -- the part of a chunk from a place on, as it is lent
 pub all_of : (n : ℕ) (xs : List ℕ) → take (length xs - n) (drop n xs) ≡ drop n xs
@@ -39,7 +47,11 @@ along-begin p before chunk s =
 
 module _ (p₀ : Progress) (before : ℕ) (chunk : List ℕ) (p : Progress) (next written : ℕ) (a : Along p₀ before chunk p next written)
     (more : next < length chunk) (entry : List ℕ) (size : buffer_size ≡ length entry) (r : Fed) (exit : List ℕ)
-    (f : Feeds (fed (length entry) p (drop next chunk)) entry r exit) (kept : length exit ≡ length entry) where
+    (lent : Feeds (fed (length entry) p (take (length chunk - next) (drop next chunk))) entry r exit)
+    (kept : length exit ≡ length entry) where
+  abbrev f : Feeds (fed (length entry) p (drop next chunk)) entry r exit
+  f = rw all_of at lent
+
   -- what the call of feed brought
   abbrev piece : Heard
   piece = heard_while (room_in (length entry)) 0 p (drop next chunk)
@@ -114,37 +126,54 @@ module _ (p₀ : Progress) (before : ℕ) (chunk : List ℕ) (p : Progress) (nex
 
   -- a turn that a refusal ends
   pub refused :
-      (s : State)
+      (from s : State)
       → (number r.verdict ≡ 0 → ⊥)
       → s.verdict ≡ r.verdict
       → s.progress ≡ r.progress
-      → s.written ≡ written + r.used
-      → Took p₀ before chunk s
-  refused s n v q w =
+      → s.counts.written ≡ written + r.used
+      → s.counts.read ≡ from.counts.read
+      → s.more ≡ false
+      → from.progress ≡ p₀
+      → from.counts.written ≡ before
+      → Went from chunk s
+  refused from s n v q w k m fp fw =
       let all = rw (ne_eqb (number r.verdict) 0 n) at turned in
       record {
-        verdict = rw (all, v);
-        progress = rw (all, q);
-        written = rw (all, append-nil, w) count;
-        sound = rw (q, w) sound;
+        took =
+            rw (fp, fw)
+            (record {
+              verdict = rw (all, v);
+              progress = rw (all, q);
+              written = rw (all, append-nil, w) count;
+              sound = rw (q, w) sound;
+            });
+        read = k;
+        goes = m ∙ sym (rw (v, ne_eqb (number r.verdict) 0 n) (and_false from.more));
       }
 
 -- the chunk is used up
 pub used-up :
-    (p₀ : Progress) (before : ℕ) (chunk : List ℕ) (p : Progress) (next written : ℕ) (s : State)
-    → Along p₀ before chunk p next written
+    (from : State) (chunk : List ℕ) (p : Progress) (next written : ℕ) (s : State)
+    → Along from.progress from.counts.written chunk p next written
     → length chunk ≤ next
     → number s.verdict ≡ 0
     → s.progress ≡ p
-    → s.written ≡ written
-    → Took p₀ before chunk s
+    → s.counts.written ≡ written
+    → s.counts.read ≡ from.counts.read
+    → s.more ≡ from.more
+    → Went from chunk s
 unfolding heard_while
-used-up p₀ before chunk p next written s a l v q w =
+used-up from chunk p next written s a l v q w k m =
     let none : heard p (drop next chunk) ≡ stopped p 0 = rw (drop_of_length-le chunk l) in
     let all = a.same ∙ ap (behind next a.said) none in
     record {
-      verdict = rw all v;
-      progress = rw all q;
-      written = rw (all, append-nil, w) a.count;
-      sound = rw (q, w) a.sound;
+      took =
+          record {
+            verdict = rw all v;
+            progress = rw all q;
+            written = rw (all, append-nil, w) a.count;
+            sound = rw (q, w) a.sound;
+          };
+      read = k;
+      goes = rw v (m ∙ sym (and_true from.more));
     }

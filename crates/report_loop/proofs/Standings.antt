@@ -2,31 +2,31 @@
 -- Assumes nothing.
 use Prim.Native.Nat.{ℕ, ◌+◌, ◌-◌, ◌*◌, ◌≤◌, ◌<◌}
 use mathlib.Core.Path.{◌≡◌, refl, sym, ◌∙◌}
-use mathlib.Core.Logic.{inl, inr}
-use mathlib.Core.Bool.{true}
+use mathlib.Core.Bool.{Bool, true, false, ◌&&◌, cond}
 use mathlib.Core.List.{List, [], ◌++◌}
 use native.Mathlib.Omega.{arith}
-use lib.Dec.{ltb}
+use lib.Dec.{ltb, eqb, leb}
 use lib.ListN.{length, take, drop}
 use lib.Seq.{length-take-le}
-use borrow.Author.Tests.{ltb-false}
+use borrow.Author.Tests.{ltb-true, leb-true, eqb-true}
+use Rattle.std.specs.Prelude.{Result, Ok, Err}
+use Rattle.refusal.specs.declared.Refusal.{Refusal}
 use Rattle.refusal.specs.Number.{number}
-use Rattle.lists.proofs.Cases.{by-test}
+use Rattle.matcher.specs.Matcher.{no_matcher}
+use Rattle.lists.proofs.Laws.{and_left, and_right}
 use Rattle.stage.specs.Stage.{max_taken}
 use Rattle.report_core.specs.declared.Progress.{Progress}
 use Rattle.report_core.specs.declared.Begun.{Begun}
 use Rattle.report_core.specs.Output.{card_bytes, output}
-use Rattle.report_core.specs.Progress.{heard_while}
 use Rattle.report_core.specs.Calls.{Begins}
 use Rattle.report_core.specs.Sent.{Sent, Partly}
 use Rattle.report_core.proofs.Hearing.{fits-within, heard-later}
 use Rattle.report_core.proofs.Sending.{heard_all, sent-refused, sent-first, sent-more, sent-over, sent-partly}
-use Rattle.report_loop.specs.declared.Status.{Status}
-use Rattle.report_loop.specs.declared.Status.TheVariants.{More, Ended, Unreadable, Unwritable}
+use Rattle.report_loop.specs.declared.Failure.{Failure}
+use Rattle.report_loop.specs.declared.Failure.TheVariants.{Unreadable, Unwritable}
+use Rattle.report_loop.specs.declared.Counts.{Counts}
 use Rattle.report_loop.specs.declared.State.{State}
-use Rattle.report_loop.specs.declared.Outcome.{Outcome}
-use Rattle.report_loop.specs.State.{buffer_size, Sound, Took, Passed, behind_front, Ready, Goes, on, over, Turned, Standing, Stands, Closed, Over}
-use Rattle.report_loop.specs.State as state
+use Rattle.report_loop.specs.State.{buffer_size, Sound, Took, Went, Passed, Ready, Came, Turned, Standing, Opened, Stands, Broken, Closed, Over}
 
 -- a run's count and state, put in other words
 sent-as :
@@ -34,91 +34,135 @@ sent-as :
     → Sent input refusal p read written
     → number s.verdict ≡ refusal
     → s.progress ≡ p
-    → s.read ≡ read
-    → s.written ≡ written
-    → Sent input (number s.verdict) s.progress s.read s.written
+    → s.counts.read ≡ read
+    → s.counts.written ≡ written
+    → Sent input (number s.verdict) s.progress s.counts.read s.counts.written
 sent-as s q v e r w = rw (v, e, r, w) q
 
 -- no more is written than the last t can bring
 most-written : {p : Progress} {written : ℕ} → Sound p written → written ≤ buffer_size * max_taken
 most-written {p} q = omega (arith, q.few, fits-within p q.fits)
 
-module _ (chunk : List ℕ) (b : Begun) (q : Begins chunk b) where
-  -- the card is refused
-  pub opened-refused :
-      (number b.verdict ≡ 0 → ⊥)
-      → Standing chunk (record { progress = b.progress; verdict = b.verdict; read = length chunk; written = 0; status = Ended })
-  opened-refused n = state.ended refl (omega arith) (sent-refused chunk b q n)
+-- the card is refused
+pub opened-refused :
+    (chunk : List ℕ) (refusal : Refusal) (s : State)
+    → Begins chunk (Err refusal)
+    → s.verdict ≡ Err refusal
+    → s.progress.matcher ≡ no_matcher
+    → s.progress.total ≡ 0
+    → s.counts ≡ record { read = length chunk; written = 0 }
+    → s.more ≡ false
+    → Standing chunk s
+opened-refused chunk refusal s q v e z k m =
+    rw (v, k, m)
+    (record {
+      sent = sent-refused chunk refusal s.progress q (rw e) z;
+      few = omega arith;
+      ready = λ more. let z : ◌≡◌ {A = ℕ} 0 1 = cc in absurd (omega arith);
+    })
 
-  -- the card is read, and what stands behind it was passed
-  module _ (accepted : number b.verdict ≡ 0) (short : length chunk ≤ card_bytes)
-      (status : Status) (e : status ≡ behind_front (length chunk)) (r : State) where
-    abbrev first : State
-    first = record { progress = b.progress; verdict = b.verdict; read = length chunk; written = 0; status = status }
+-- the card is read, and what stands behind it was passed
+module _ (chunk : List ℕ) (b : Begun) (q : Begins chunk (Ok b)) (short : length chunk ≤ card_bytes) (first : State)
+    (more : first.more ≡ leb card_bytes (length chunk)) (progress : first.progress ≡ b.progress)
+    (read : first.counts.read ≡ length chunk) (none : first.counts.written ≡ 0) where
+  went : (r : State) → Went first (drop b.taken chunk) r → Standing chunk r
+  went r w =
+      let t = rw (progress, none) at w.took in
+      record {
+        sent = sent-as r (sent-first chunk b q) t.verdict t.progress (w.read ∙ read) (omega (arith, t.written));
+        few = most-written t.sound;
+        ready = λ m.
+            let both : (leb card_bytes (length chunk) && eqb (number r.verdict) 0) ≡ true = rw more at (sym w.goes ∙ m) in (
+              record {
+                sound = t.sound;
+                accepted = eqb-true _ _ (and_right (leb card_bytes (length chunk)) _ both);
+                near = omega (arith, w.read, read);
+              },
+              omega (arith, w.read, read, leb-true _ _ (and_left (leb card_bytes (length chunk)) _ both)),
+            );
+      }
 
-    first-sent :
-        Took b.progress 0 (drop b.taken chunk) r
-        → r.read ≡ length chunk
-        → Sent chunk (number r.verdict) r.progress r.read r.written
-    first-sent t l =
-        sent-as r (sent-first chunk b q accepted) t.verdict t.progress l (omega (arith, t.written))
-
-    pub opened : Passed first (drop b.taken chunk) r → Standing chunk r
-    opened (state.unwritten u) = state.unwritten u
-    opened (state.refused t l n u) = state.ended u (most-written t.sound) (first-sent t l)
-    opened (state.taken t l z u) =
-        by-test (ltb (length chunk) card_bytes)
-        (λ f. state.ended (u ∙ e ∙ rw f) (most-written t.sound) (first-sent t l))
-        (λ f. state.more (u ∙ e ∙ rw f) (record { sound = t.sound; accepted = z; near = omega (arith) })
-        (omega (arith, ltb-false (length chunk) card_bytes f)) (first-sent t l))
+  pub opened : (r : Result State Failure) → Passed first (drop b.taken chunk) r → Opened chunk r
+  opened (Ok r) w = went r w
+  opened (Err (Unreadable counts)) w = let z : ◌≡◌ {A = ℕ} 0 1 = cc in absurd (omega arith)
+  opened (Err Unwritable) w = tt
 
 -- how far the end can be: t has a limit
-pub distance : Status → ℕ → ℕ
-distance More t = max_taken + 1 - t
-distance Ended t = 0
-distance Unreadable t = 0
-distance Unwritable t = 0
+pub distance : Bool → ℕ → ℕ
+distance more t = cond more (max_taken + 1 - t) 0
 
-module _ (s r : State) (input : List ℕ) (ready : Ready s) where
+module _ (s : State) (input : List ℕ) (ready : Ready s) where
   -- a chunk without a refusal: t has risen by its bytes
   risen :
-      (n : ℕ) → n ≤ length input → Took s.progress s.written (take n input) r → number r.verdict ≡ 0
+      (r : State) (n : ℕ) → n ≤ length input → Took s.progress s.counts.written (take n input) r → number r.verdict ≡ 0
       → r.progress.matcher.now.at ≡ s.progress.matcher.now.at + n
-  risen n l t z =
+  risen r n l t z =
       rw t.progress
       (heard-later (λ used. true) 0 s.progress (take n input)
       ∙ omega (arith, heard_all 0 s.progress (take n input) (sym t.verdict ∙ z), length-take-le n input l))
 
-  -- the bytes of the chunk, the front of the buffer, join those that were read before
-  pub turned :
-      (before : List ℕ)
-      → card_bytes ≤ s.read
-      → Sent before (number s.verdict) s.progress s.read s.written
-      → Turned s r input
-      → Stands r
-  turned before enough q (state.unread u e w) = (before, state.unread u (rw (e, w) (sent-partly _ _ _ _ _ q enough)))
-  turned before enough q (state.unwritten u) = (before, state.unwritten u)
-  turned before enough q (state.came n l e t g) = (before ++ take n input, go g)
-    where
-      sent : Sent (before ++ take n input) (number r.verdict) r.progress r.read r.written
-      sent =
-          sent-as r (sent-more _ _ _ _ (take n input) (rw ready.accepted at q) enough) t.verdict t.progress
-          (omega (arith, length-take-le n input l)) t.written
+  module _ (r : State) (c : Came s input r) where
+    abbrev on : r.more ≡ true → (0 < c.size) × (number r.verdict ≡ 0)
+    on m =
+        let both : (ltb 0 c.size && eqb (number r.verdict) 0) ≡ true = sym c.goes ∙ m in
+        (ltb-true _ _ (and_left (ltb 0 c.size) _ both), eqb-true _ _ (and_right (ltb 0 c.size) _ both))
 
-      go : Goes n r → Standing (before ++ take n input) r
-      go (on m z u) =
-          state.more u (record { sound = t.sound; accepted = z; near = omega (arith, ready.near, risen n l t z) }) (omega arith) sent
-      go (over m u) = state.ended u (most-written t.sound) sent
+    -- the bytes of the chunk, the front of the buffer, join those that were read before
+    pub came :
+        (before : List ℕ)
+        → card_bytes ≤ s.counts.read
+        → Sent before (number s.verdict) s.progress s.counts.read s.counts.written
+        → Stands r
+    came before enough q =
+        let t = c.took in (
+          before ++ take c.size input,
+          record {
+            sent =
+                sent-as r (sent-more _ _ _ _ (take c.size input) (rw ready.accepted at q) enough) t.verdict t.progress
+                (omega (arith, c.read, length-take-le c.size input c.within)) t.written;
+            few = most-written t.sound;
+            ready = λ m. (
+              record {
+                sound = t.sound;
+                accepted = (on m).1;
+                near = omega (arith, ready.near, c.read, risen r c.size c.within t (on m).1);
+              },
+              omega (arith, c.read),
+            );
+          },
+        )
 
-  pub nearer :
-      s.progress.matcher.now.at ≤ max_taken
-      → Turned s r input
-      → distance r.status r.progress.matcher.now.at < distance More s.progress.matcher.now.at
-  unfolding distance
-  nearer l (state.unread u e w) = rw u (omega arith)
-  nearer l (state.unwritten u) = rw u (omega arith)
-  nearer l (state.came n k e t (on m z u)) = rw u (omega (arith, risen n k t z))
-  nearer l (state.came n k e t (over m u)) = rw u (omega arith)
+    pub nearer :
+        s.progress.matcher.now.at ≤ max_taken
+        → distance r.more r.progress.matcher.now.at < distance true s.progress.matcher.now.at
+    unfolding distance
+    nearer l = go r.more refl
+      where
+        go : (b : Bool) → r.more ≡ b → cond b (max_taken + 1 - r.progress.matcher.now.at) 0 < max_taken + 1 - s.progress.matcher.now.at
+        go true m = omega (arith, (on m).0, risen r c.size c.within c.took (on m).1)
+        go false m = omega arith
+
+  pub broken :
+      (e : Failure)
+      → (before : List ℕ)
+      → card_bytes ≤ s.counts.read
+      → Sent before (number s.verdict) s.progress s.counts.read s.counts.written
+      → Turned s input (Err e)
+      → Broken e
+  broken (Unreadable counts) before enough q w = rw w (sent-partly _ _ _ _ _ q enough)
+  broken Unwritable before enough q w = tt
+
+  -- A chunk that was read into the buffer, and passed.
+  pub passes :
+      (n : ℕ) (next : State) (r : Result State Failure)
+      → n ≤ length input
+      → next ≡ record { progress = s.progress; verdict = s.verdict; counts = record { read = s.counts.read + n; written = s.counts.written }; more = ltb 0 n }
+      → Passed next (take n input) r
+      → Turned s input r
+  passes n next (Ok r) l e w =
+      let w' = rw e at w in record { size = n; within = l; read = w'.read; took = w'.took; goes = w'.goes }
+  passes n next (Err (Unreadable counts)) l e w = let z : ◌≡◌ {A = ℕ} 0 1 = cc in absurd (omega arith)
+  passes n next (Err Unwritable) l e w = tt
 
 -- nothing was written yet
 pub nothing : (input : List ℕ) → Partly (length input) 0
@@ -127,64 +171,10 @@ nothing input =
 
 -- the end of a run
 pub closed :
-    (input : List ℕ) (s : State) (r : Outcome)
-    → Sent input (number s.verdict) s.progress s.read s.written
+    (input : List ℕ) (s : State) (r : Result Counts Failure)
+    → Sent input (number s.verdict) s.progress s.counts.read s.counts.written
     → Closed s r
     → Over r
-closed input s r q (state.written u e w) = state.whole u (rw (e, w) (sent-over _ _ _ _ _ q))
-closed input s r q (state.unwritten u) = state.unwritten u
-
--- A chunk that was read: where it has no bytes, and where it was passed.
-module _ (s r : State) (input : List ℕ) (n : ℕ) (ready : Ready s) (within : n ≤ length input) where
-  pub ends :
-      n ≡ 0
-      → r ≡ record { progress = s.progress; verdict = s.verdict; read = s.read + n; written = s.written; status = Ended }
-      → Turned s r input
-  unfolding heard_while
-  ends z e =
-      state.came n within (rw e)
-      (rw (e, z)
-      (record { verdict = ready.accepted; progress = refl; written = omega arith; sound = ready.sound }))
-      (over (inl z) (rw e))
-
-  pub passes :
-      0 < n
-      → s.status ≡ More
-      → Passed (record { progress = s.progress; verdict = s.verdict; read = s.read + n; written = s.written; status = s.status }) (take n input) r
-      → Turned s r input
-  passes l m (state.unwritten u) = state.unwritten u
-  passes l m (state.taken t e z u) = state.came n within e t (on l z (u ∙ m))
-  passes l m (state.refused t e z u) = state.came n within e t (over (inr z) u)
-
--- What a standing tells, by its status.
-pub record Reading (input : List ℕ) (s : State) : Type 0 where
-  pub ready : Ready s
-  pub enough : card_bytes ≤ s.read
-  pub sent : Sent input (number s.verdict) s.progress s.read s.written
-
-pub reading : {input : List ℕ} (s : State) → s.status ≡ More → Standing input s → Reading input s
-reading s m (state.more u r l q) = record { ready = r; enough = l; sent = q }
-reading s m (state.ended u f q) = let z : ◌≡◌ {A = ℕ} 0 1 = cc in absurd (omega arith)
-reading s m (state.unread u q) = let z : ◌≡◌ {A = ℕ} 0 1 = cc in absurd (omega arith)
-reading s m (state.unwritten u) = let z : ◌≡◌ {A = ℕ} 0 1 = cc in absurd (omega arith)
-
-pub record Ending (input : List ℕ) (s : State) : Type 0 where
-  pub few : s.written ≤ buffer_size * max_taken
-  pub sent : Sent input (number s.verdict) s.progress s.read s.written
-
-pub ending : {input : List ℕ} (s : State) → s.status ≡ Ended → Standing input s → Ending input s
-ending s m (state.more u r l q) = let z : ◌≡◌ {A = ℕ} 0 1 = cc in absurd (omega arith)
-ending s m (state.ended u f q) = record { few = f; sent = q }
-ending s m (state.unread u q) = let z : ◌≡◌ {A = ℕ} 0 1 = cc in absurd (omega arith)
-ending s m (state.unwritten u) = let z : ◌≡◌ {A = ℕ} 0 1 = cc in absurd (omega arith)
-
-pub broken :
-    {input : List ℕ} (s : State)
-    → (s.status ≡ More → ⊥)
-    → (s.status ≡ Ended → ⊥)
-    → Standing input s
-    → Over (record { read = s.read; written = s.written; status = s.status })
-broken s n m (state.more u r l q) = absurd (n u)
-broken s n m (state.ended u f q) = absurd (m u)
-broken s n m (state.unread u q) = state.unread u q
-broken s n m (state.unwritten u) = state.unwritten u
+closed input s (Ok r) q c = rw (c.0, c.1) (sent-over _ _ _ _ _ q)
+closed input s (Err (Unreadable counts)) q c = let z : ◌≡◌ {A = ℕ} 0 1 = cc in absurd (omega arith)
+closed input s (Err Unwritable) q c = tt

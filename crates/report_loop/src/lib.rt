@@ -3,165 +3,153 @@
 // written, no last line is written.
 #![tactic(auto)]
 
-ghost use Rattle.std.specs.Prelude.{◌≤◌, ◌*◌, ◌≡◌, length};
-ghost use Rattle.descriptor.specs.Reads.{Reads};
+ghost use Rattle.std.specs.Prelude.{◌≤◌, ◌+◌, ◌*◌, ◌<◌, ◌≡◌, true, length};
 ghost use Rattle.report_core.specs.Output.{card_bytes};
-ghost use Rattle.report_loop.specs.declared.Status.TheVariants.{More};
 ghost use Rattle.stage.specs.Stage.{max_taken};
-ghost use Rattle.report_loop.specs.State.{buffer_size, behind_front, Sound, Passed, Ready, Turned, Standing, Stands, Closed, Over};
+ghost use Rattle.report_loop.specs.State.{buffer_size, Sound, Sends, Passed, Ready, Turned, Fronted, Opened, Stands, Ends, Closed, Over};
 
-use descriptor::Got;
+use matcher::Matcher;
 use refusal::Verdict;
 use report_core::{CARD_BYTES, Progress, begin, feed, finish};
-use report_lines::Put;
 use std::io;
 
-// More is to be read; or the input has ended or something was refused; or a read failed; or a write did.
+// The bytes of the buffer for the input, and of that for the output.
+const BUFFER: usize = 65536;
+
+// How many bytes were read and written in all.
 #[derive(Clone, Copy)]
-pub enum Status {
-    More,
-    Ended,
-    Unreadable,
+pub struct Counts {
+    pub read: u64,
+    pub written: u64,
+}
+
+// Why a run came to no end: a read failed, behind so many bytes read and written; or output could not be written.
+#[derive(Clone, Copy)]
+pub enum Failure {
+    Unreadable(Counts),
     Unwritable,
 }
 
-// How far the run has come, what was refused, if something was, how many bytes were read and written, and how the run goes on.
+// How far the run has come: what was refused, if something was; how many bytes were read and written; and whether more is to be read.
 #[derive(Clone, Copy)]
 struct State {
     progress: Progress,
     verdict: Verdict,
-    read: u64,
-    written: u64,
-    status: Status,
+    counts: Counts,
+    more: bool,
 }
 
-// How many bytes were read and written in all, and how the run ended.
-#[derive(Clone, Copy)]
-pub struct Outcome {
-    pub read: u64,
-    pub written: u64,
-    pub status: Status,
+// Writes lines, and hands back how many bytes were written with them in all.
+fn put<W: io::Write>(to: &mut W, lines: &[u8], written: u64) -> Result<u64, Failure>
+    requires { written + length lines.now < 18446744073709551616 }
+    ensures { Sends written lines.now result }
+{
+    let count = descriptor::write(to, lines).map_err(|_| Failure::Unwritable)?;
+    Ok(written + (count as u64))
 }
 
 // Writes the lines that the bytes of a chunk bring, as many at a time as the buffer holds.
-fn pass<W: io::Write>(to: &mut W, s: State, chunk: &[u8], out: &mut [u8]) -> State
-    requires { Sound s.progress s.written × (buffer_size ≡ length out.old) }
+fn pass<W: io::Write>(
+    to: &mut W,
+    s: State,
+    chunk: &[u8],
+    out: &mut [u8; BUFFER],
+) -> Result<State, Failure>
+    requires { Sound s.progress s.counts.written }
     ensures { Passed s chunk.now result }
 {
-    let mut p = s.progress;
+    let mut progress = s.progress;
     let mut next: usize = 0;
-    let mut written = s.written;
+    let mut written = s.counts.written;
     while next < chunk.len() {
-        let fed = feed(p, &chunk[next..], out);
-        let used = fed.used;
-        let sent = descriptor::write(to, &out[..used]);
-        if !sent.ok {
-            return State {
-                status: Status::Unwritable,
-                ..s
-            };
-        }
-        p = fed.progress;
+        let fed = feed(progress, &chunk[next..], out);
+        written = put(to, &out[..fed.used], written)?;
+        progress = fed.progress;
         next = next + fed.taken;
-        written = written + (sent.count as u64);
-        let verdict = fed.verdict;
-        if let Verdict::Refused(_) = verdict {
-            return State {
-                progress: p,
-                verdict,
-                read: s.read,
-                written,
-                status: Status::Ended,
-            };
+        if fed.verdict.is_err() {
+            return Ok(State {
+                progress,
+                verdict: fed.verdict,
+                counts: Counts {
+                    written,
+                    ..s.counts
+                },
+                more: false,
+            });
         }
     }
-    let status = s.status;
-    State {
-        progress: p,
-        verdict: Verdict::Accepted,
-        read: s.read,
-        written,
-        status,
-    }
+    Ok(State {
+        progress,
+        verdict: Ok(()),
+        counts: Counts {
+            written,
+            ..s.counts
+        },
+        more: s.more,
+    })
 }
 
 // Reads the bytes on which the card is judged, or all of the input if that is less.
-fn read_front<R: io::Read>(from: &mut R, input: &mut [u8]) -> Got
-    requires { card_bytes ≤ length input.old }
-    ensures { (result.count ≤ card_bytes) × Reads result input.new }
+fn read_front<R: io::Read>(from: &mut R, input: &mut [u8; BUFFER]) -> Result<usize, Failure>
+    ensures { Fronted input.new result }
 {
-    descriptor::fill(from, &mut input[..CARD_BYTES])
-}
-
-// How the run goes on behind the front: the input has ended where it is shorter than the bytes on which a card is judged.
-fn behind_front(n: usize) -> Status
-    ensures { result ≡ behind_front n }
-{
-    if n < CARD_BYTES {
-        Status::Ended
-    } else {
-        Status::More
-    }
-}
-
-// Reads the card, on the bytes on which it is judged, and writes what those behind it bring.
-fn open<W: io::Write>(to: &mut W, front: &[u8], out: &mut [u8]) -> State
-    requires { (length front.now ≤ card_bytes) × (buffer_size ≡ length out.old) }
-    ensures { Standing front.now result }
-{
-    let begun = begin(front);
-    let verdict = begun.verdict;
-    let progress = begun.progress;
-    let read = front.len() as u64;
-    if let Verdict::Refused(_) = verdict {
-        return State {
-            progress,
-            verdict,
-            read,
+    descriptor::fill(from, &mut input[..CARD_BYTES]).map_err(|failed| {
+        Failure::Unreadable(Counts {
+            read: failed.count as u64,
             written: 0,
-            status: Status::Ended,
-        };
-    }
-    let status = behind_front(front.len());
-    let taken = begun.taken;
-    let s = State {
-        progress,
-        verdict,
-        read,
-        written: 0,
-        status,
-    };
-    pass(to, s, &front[taken..], out)
+        })
+    })
 }
 
-// Reads the next chunk, and writes what it brings.
+// Reads the card, on the bytes on which it is judged, and writes what those behind it bring. No more is read of an input that is shorter.
+fn open<W: io::Write>(to: &mut W, front: &[u8], out: &mut [u8; BUFFER]) -> Result<State, Failure>
+    requires { length front.now ≤ card_bytes }
+    ensures { Opened front.now result }
+{
+    let counts = Counts {
+        read: front.len() as u64,
+        written: 0,
+    };
+    match begin(front) {
+        Ok(begun) => {
+            let s = State {
+                progress: begun.progress,
+                verdict: Ok(()),
+                counts,
+                more: CARD_BYTES <= front.len(),
+            };
+            pass(to, s, &front[begun.taken..], out)
+        }
+        Err(refusal) => Ok(State {
+            progress: Progress {
+                matcher: Matcher::none(),
+                total: 0,
+            },
+            verdict: Err(refusal),
+            counts,
+            more: false,
+        }),
+    }
+}
+
+// Reads the next chunk, and writes what it brings. There are none behind an empty one.
 fn turn<R: io::Read, W: io::Write>(
     from: &mut R,
     to: &mut W,
     s: State,
-    input: &mut [u8],
-    out: &mut [u8],
-) -> State
-    requires { Ready s × (s.status ≡ More) × (buffer_size ≡ length out.old) }
-    ensures { Turned s result input.new }
+    input: &mut [u8; BUFFER],
+    out: &mut [u8; BUFFER],
+) -> Result<State, Failure>
+    requires { Ready s }
+    ensures { Turned s input.new result }
 {
-    let got = descriptor::read(from, input);
-    if !got.ok {
-        return State {
-            status: Status::Unreadable,
-            ..s
-        };
-    }
-    let n = got.count;
-    let read = s.read + (n as u64);
-    if n == 0 {
-        return State {
-            read,
-            status: Status::Ended,
-            ..s
-        };
-    }
-    let next = State { read, ..s };
+    let n = descriptor::read(from, input).map_err(|_| Failure::Unreadable(s.counts))?;
+    let read = s.counts.read + (n as u64);
+    let next = State {
+        counts: Counts { read, ..s.counts },
+        more: 0 < n,
+        ..s
+    };
     pass(to, next, &input[..n], out)
 }
 
@@ -170,83 +158,42 @@ fn read_on<R: io::Read, W: io::Write>(
     from: &mut R,
     to: &mut W,
     first: State,
-    input: &mut [u8],
-    out: &mut [u8],
-) -> State
-    requires { Stands first × (buffer_size ≡ length out.old) }
-    ensures { Stands result × (result.status ≡ More → ⊥) }
+    input: &mut [u8; BUFFER],
+    out: &mut [u8; BUFFER],
+) -> Result<State, Failure>
+    requires { Stands first }
+    ensures { Ends result }
 {
     let mut s = first;
-    let mut status = s.status;
-    while let Status::More = status {
-        s = turn(from, to, s, input, out);
-        status = s.status;
+    while s.more {
+        s = turn(from, to, s, input, out)?;
     }
-    s
+    Ok(s)
 }
 
 // Writes the last lines.
-fn close<W: io::Write>(to: &mut W, s: State, out: &mut [u8]) -> Outcome
-    requires { (s.written ≤ buffer_size * max_taken) × (buffer_size ≡ length out.old) }
+fn close<W: io::Write>(to: &mut W, s: State, out: &mut [u8; BUFFER]) -> Result<Counts, Failure>
+    requires { s.counts.written ≤ buffer_size * max_taken }
     ensures { Closed s result }
 {
-    let verdict = s.verdict;
-    let progress = s.progress;
-    let put = finish(verdict, progress.matcher.now.at, progress.total, out);
-    if let Put::Next(end) = put {
-        let sent = descriptor::write(to, &out[..end]);
-        if sent.ok {
-            return Outcome {
-                read: s.read,
-                written: s.written + (sent.count as u64),
-                status: Status::Ended,
-            };
-        }
-    }
-    Outcome {
-        read: s.read,
-        written: s.written,
-        status: Status::Unwritable,
-    }
+    let Some(end) = finish(s.verdict, s.progress.matcher.now.at, s.progress.total, out) else {
+        return Err(Failure::Unwritable);
+    };
+    let written = put(to, &out[..end], s.counts.written)?;
+    Ok(Counts {
+        written,
+        ..s.counts
+    })
 }
 
 // The card, the stream chunk by chunk, and the last lines.
-fn run_with<R: io::Read, W: io::Write>(
-    from: &mut R,
-    to: &mut W,
-    input: &mut [u8],
-    out: &mut [u8],
-) -> Outcome
-    requires { (card_bytes ≤ length input.old) × (buffer_size ≡ length out.old) }
+pub fn run<R: io::Read, W: io::Write>(from: &mut R, to: &mut W) -> Result<Counts, Failure>
     ensures { Over result }
 {
-    let front = read_front(from, input);
-    let n = front.count;
-    if !front.ok {
-        return Outcome {
-            read: n as u64,
-            written: 0,
-            status: Status::Unreadable,
-        };
-    }
-    let opened = open(to, &input[..n], out);
-    let s = read_on(from, to, opened, input, out);
-    let status = s.status;
-    if let Status::Ended = status {
-        return close(to, s, out);
-    }
-    Outcome {
-        read: s.read,
-        written: s.written,
-        status,
-    }
-}
-
-// The run, with a buffer for the input and one for the output.
-pub fn run<R: io::Read, W: io::Write>(from: &mut R, to: &mut W) -> Outcome
-    ensures { Over result }
-{
-    let mut input = [0u8; 65536];
-    let mut out = [0u8; 65536];
-    run_with(from, to, &mut input, &mut out)
+    let mut input = [0u8; BUFFER];
+    let mut out = [0u8; BUFFER];
+    let n = read_front(from, &mut input)?;
+    let opened = open(to, &input[..n], &mut out)?;
+    let s = read_on(from, to, opened, &mut input, &mut out)?;
+    close(to, s, &mut out)
 }

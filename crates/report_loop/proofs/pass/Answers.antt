@@ -1,86 +1,49 @@
 -- `report_loop::pass` meets its contract: each turn writes what one call of `feed` brought.
-use Prim.Native.Nat.{◌+◌}
-use mathlib.Core.Path.{◌≡◌, refl, sym, ◌∙◌, ap}
-use native.Mathlib.Omega.{arith}
-use lib.ListN.{length, drop}
-use borrow.Author.Tests.{not-false}
-use Rattle.descriptor.proofs.Written.{all-written}
-use Rattle.refusal.specs.Number.{number}
-use Rattle.refusal.proofs.Distinct.{refused-some}
-use Rattle.report_core.specs.Progress.{fed}
-use Rattle.report_core.specs.Calls.{Feeds}
+use Rattle.std.proofs.Common.{refl, sym, ap, ◌∙◌, ◌+◌, arith}
+use Rattle.std.proofs.lemmas.List.{length-take-le}
+use Rattle.report_core.proofs.Feeding.{err-some, err-none}
 use Rattle.report_core.proofs.Hearing.{fits-within}
-use Rattle.report_loop.specs.State.{buffer_size, taken, refused}
 use Rattle.report_loop.proofs.Passing as Passing
 use Rattle.report_loop.proofs.pass.Goals as goal
+
+pub put-requires : goal.put-requires
+put-requires g c =
+    let f = c.feed-fed in
+    let l = c.loop-next in
+    let s = Passing.sound _ _ _ _ _ _ l.invariant c.loop-next-test.true _ (omega arith) _ _ f.ensures f.auto.out in
+    let within = Passing.used-within _ _ _ _ _ _ l.invariant c.loop-next-test.true _ (omega arith) _ _ f.ensures f.auto.out in
+    omega (arith, s.few, fits-within _ s.fits, length-take-le _ _ within)
 
 pub overflow_add-next : goal.overflow_add-next
 overflow_add-next g c =
     let l = c.loop-next in
     let f = c.feed-fed in
-    let more = c.loop-next-test.true in
-    let size : buffer_size ≡ length l.out = c.requires.1 ∙ sym l.invariant.1 in
-    let feeds : Feeds (fed (length l.out) l.p (drop l.next c.args.chunk.now)) l.out f.result f.new.out = rw Passing.all_of at f.ensures in
-    let within = Passing.taken-within _ _ _ _ _ _ l.invariant.0 more _ size _ _ feeds f.auto.out in
+    let within = Passing.taken-within _ _ _ _ _ _ l.invariant c.loop-next-test.true _ (omega arith) _ _ f.ensures f.auto.out in
     omega (arith, within)
 
-pub overflow_add-written : goal.overflow_add-written
-overflow_add-written g c =
+pub returns-then-is_err : goal.returns-then-is_err
+returns-then-is_err g c =
     let l = c.loop-next in
     let f = c.feed-fed in
-    let more = c.loop-next-test.true in
-    let size : buffer_size ≡ length l.out = c.requires.1 ∙ sym l.invariant.1 in
-    let feeds : Feeds (fed (length l.out) l.p (drop l.next c.args.chunk.now)) l.out f.result f.new.out = rw Passing.all_of at f.ensures in
-    let within = Passing.used-within _ _ _ _ _ _ l.invariant.0 more _ size _ _ feeds f.auto.out in
-    let u = c.write-sent in
-    let counted = all-written u.result f.new.out f.result.used within u.ensures (not-false _ c.if-not-sent.false) in
-    let s = Passing.sound _ _ _ _ _ _ l.invariant.0 more _ size _ _ feeds f.auto.out in
-    omega (arith, s.few, fits-within _ s.fits, counted)
-
-pub returns-in-Refused : goal.returns-in-Refused
-returns-in-Refused g c =
-    let l = c.loop-next in
-    let f = c.feed-fed in
-    let more = c.loop-next-test.true in
-    let size : buffer_size ≡ length l.out = c.requires.1 ∙ sym l.invariant.1 in
-    let feeds : Feeds (fed (length l.out) l.p (drop l.next c.args.chunk.now)) l.out f.result f.new.out = rw Passing.all_of at f.ensures in
-    let within = Passing.used-within _ _ _ _ _ _ l.invariant.0 more _ size _ _ feeds f.auto.out in
-    let u = c.write-sent in
-    let counted = all-written u.result f.new.out f.result.used within u.ensures (not-false _ c.if-not-sent.false) in
-    let n = refused-some c.in-Refused.is in
-    let all = ap (λ k. l.written + k) counted in
-    refused
-    (Passing.refused _ _ _ _ _ _ l.invariant.0 more _ size _ _ feeds f.auto.out _ n refl refl all)
-    refl n refl
+    let within = Passing.used-within _ _ _ _ _ _ l.invariant c.loop-next-test.true _ (omega arith) _ _ f.ensures f.auto.out in
+    Passing.refused _ _ _ _ _ _ l.invariant c.loop-next-test.true _ (omega arith) _ _ f.ensures f.auto.out _ _
+    (err-some _ (sym c.is_err.ensures.value ∙ c.if-is_err.true)) refl refl (c.in_ok-written.ensures ∙ ap (λ k. l.written + k) (length-take-le _ _ within)) refl refl refl refl
 
 pub loop-next-smaller : goal.loop-next-smaller
 loop-next-smaller g c =
     let l = c.loop-next in
     let f = c.feed-fed in
-    let more = c.loop-next-test.true in
-    let size : buffer_size ≡ length l.out = c.requires.1 ∙ sym l.invariant.1 in
-    let feeds : Feeds (fed (length l.out) l.p (drop l.next c.args.chunk.now)) l.out f.result f.new.out = rw Passing.all_of at f.ensures in
-    let accepted = ap number c.in_default.is in
-    let within = Passing.taken-within _ _ _ _ _ _ l.invariant.0 more _ size _ _ feeds f.auto.out in
-    let m = Passing.moves _ _ _ _ _ _ l.invariant.0 more _ size _ _ feeds f.auto.out accepted in
-    omega (arith, more, within, m)
+    let within = Passing.taken-within _ _ _ _ _ _ l.invariant c.loop-next-test.true _ (omega arith) _ _ f.ensures f.auto.out in
+    let m = Passing.moves _ _ _ _ _ _ l.invariant c.loop-next-test.true _ (omega arith) _ _ f.ensures f.auto.out (err-none _ (sym c.is_err.ensures.value ∙ c.if-is_err.false)) in
+    omega (arith, c.loop-next-test.true, within, m)
 
 pub loop-next-preserved : goal.loop-next-preserved
 loop-next-preserved g c =
     let l = c.loop-next in
     let f = c.feed-fed in
-    let more = c.loop-next-test.true in
-    let size : buffer_size ≡ length l.out = c.requires.1 ∙ sym l.invariant.1 in
-    let feeds : Feeds (fed (length l.out) l.p (drop l.next c.args.chunk.now)) l.out f.result f.new.out = rw Passing.all_of at f.ensures in
-    let within = Passing.used-within _ _ _ _ _ _ l.invariant.0 more _ size _ _ feeds f.auto.out in
-    let u = c.write-sent in
-    let counted = all-written u.result f.new.out f.result.used within u.ensures (not-false _ c.if-not-sent.false) in
-    let accepted = ap number c.in_default.is in (
-      rw counted (Passing.on _ _ _ _ _ _ l.invariant.0 more _ size _ _ feeds f.auto.out accepted),
-      f.auto.out ∙ l.invariant.1,
-    )
+    let within = Passing.used-within _ _ _ _ _ _ l.invariant c.loop-next-test.true _ (omega arith) _ _ f.ensures f.auto.out in
+    rw (c.in_ok-written.ensures ∙ ap (λ k. l.written + k) (length-take-le _ _ within))
+    (Passing.on _ _ _ _ _ _ l.invariant c.loop-next-test.true _ (omega arith) _ _ f.ensures f.auto.out (err-none _ (sym c.is_err.ensures.value ∙ c.if-is_err.false)))
 
 pub returns : goal.returns
-returns g c =
-    let l = c.loop-next in
-    taken (Passing.used-up _ _ _ _ _ _ _ l.invariant.0 c.loop-next-test.false refl refl refl) refl refl refl
+returns g c = Passing.used-up _ _ _ _ _ _ c.loop-next.invariant c.loop-next-test.false refl refl refl refl refl

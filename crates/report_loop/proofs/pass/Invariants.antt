@@ -1,5 +1,4 @@
 use Prim.Native.Nat.{◌-◌}
-use mathlib.Core.Path.{◌≡◌}
 use lib.ListN.{length}
 use Rattle.report_loop.proofs.Passing as Passing
 use Rattle.report_loop.proofs.pass.Given as goal
@@ -7,7 +6,7 @@ use Rattle.report_loop.proofs.pass.Given as goal
 -- the lines of the bytes taken were written
 abbrev pub invariant-loop-next : goal.invariant-loop-next
 invariant-loop-next g l =
-    Passing.Along l.initial.p l.initial.written l.fn.chunk l.p l.next l.written × (length l.out ≡ length l.initial.out)
+    Passing.Along l.initial.progress l.initial.written l.fn.chunk l.progress l.next l.written
 
 -- the bytes that are left
 abbrev pub decreases-loop-next : goal.decreases-loop-next

@@ -1,23 +1,24 @@
 -- `report_loop::read_on` meets its contract: each turn keeps what was written the output of what was read, and brings t nearer to its limit.
-use mathlib.Core.Path.{refl, sym, ◌∙◌}
+use Rattle.std.proofs.lemmas.Result.{err_from_is_err_and}
 use Rattle.report_core.proofs.Hearing.{fits-within}
-use Rattle.report_loop.proofs.Standings.{turned, nearer, reading}
+use Rattle.report_loop.proofs.Standings.{came, nearer, broken}
 use Rattle.report_loop.proofs.read_on.Goals as goal
 
-pub loop-status-smaller : goal.loop-status-smaller
-loop-status-smaller g c =
-    let l = c.loop-status in
-    let told = c.in-More.is in
-    let q = reading _ (sym l.invariant.1 ∙ told) l.invariant.0.1 in
-    rw told (nearer _ _ _ q.ready (fits-within _ q.ready.sound.fits) c.turn-s.ensures)
+pub returns-in_err-s : goal.returns-in_err-s
+returns-in_err-s g c =
+    let st = c.loop-s.invariant.1 in
+    let ready = st.ready c.loop-s-test.true in
+    let p = err_from_is_err_and c.from_residual.result c.from_residual.ensures.1 in
+    rw (p.1, p.2)
+    (broken _ c.turn.new.input ready.0 c.in_err-s.field-0.0 c.loop-s.invariant.0 ready.1 st.sent c.in_err-s.ensures)
 
-pub loop-status-preserved : goal.loop-status-preserved
-loop-status-preserved g c =
-    let l = c.loop-status in
-    let q = reading _ (sym l.invariant.1 ∙ c.in-More.is) l.invariant.0.1 in
-    let r = c.turn-s in (
-      turned _ _ _ q.ready _ q.enough q.sent r.ensures,
-      refl,
-      r.auto.input ∙ l.invariant.2,
-      r.auto.out ∙ l.invariant.3,
-    )
+pub loop-s-smaller : goal.loop-s-smaller
+loop-s-smaller g c =
+    let ready = c.loop-s.invariant.1.ready c.loop-s-test.true in
+    rw c.loop-s-test.true (nearer _ c.turn.new.input ready.0 c.in_ok-s.s c.in_ok-s.ensures (fits-within _ ready.0.sound.fits))
+
+pub loop-s-preserved : goal.loop-s-preserved
+loop-s-preserved g c =
+    let st = c.loop-s.invariant.1 in
+    let ready = st.ready c.loop-s-test.true in
+    came _ c.turn.new.input ready.0 c.in_ok-s.s c.in_ok-s.ensures c.loop-s.invariant.0 ready.1 st.sent

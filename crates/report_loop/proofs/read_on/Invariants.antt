@@ -1,14 +1,11 @@
-use mathlib.Core.Path.{◌≡◌}
-use lib.ListN.{length}
 use Rattle.report_loop.specs.State.{Stands}
 use Rattle.report_loop.proofs.Standings.{distance}
 use Rattle.report_loop.proofs.read_on.Given as goal
 
 -- what was written is the output of what was read
-abbrev pub invariant-loop-status : goal.invariant-loop-status
-invariant-loop-status g l =
-    Stands l.s × (l.status ≡ l.s.status) × (length l.input ≡ length l.initial.input) × (length l.out ≡ length l.initial.out)
+abbrev pub invariant-loop-s : goal.invariant-loop-s
+invariant-loop-s g l = Stands l.s
 
 -- how far the end can be
-abbrev pub decreases-loop-status : goal.decreases-loop-status
-decreases-loop-status g l = distance l.status l.s.progress.matcher.now.at
+abbrev pub decreases-loop-s : goal.decreases-loop-s
+decreases-loop-s g l = distance l.s.more l.s.progress.matcher.now.at
