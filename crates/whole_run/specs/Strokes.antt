@@ -1,4 +1,4 @@
--- Several strokes in a row, as calls of a list and as a history: what a scan (`scanned`, matcher/specs/Scan.antt) stands for.
+-- Several strokes in a row, as calls of a list and as a history: what a scan (`scanned`, scanner/specs/Scan.antt) stands for.
 use Rattle.std.specs.Prelude.{ℕ, suc, ◌+◌, List, [], ◌∷◌, ◌++◌}
 use Rattle.matcher.specs.declared.Matcher.{Matcher}
 use Rattle.matcher.specs.Stroke.{stroke_answer, after_stroke}
