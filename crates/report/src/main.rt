@@ -2,17 +2,14 @@
 #![tactic(auto)]
 
 use descriptor::{Heard, fail};
-use report_loop::Status;
+use report_loop::{Failure, run};
 
 fn main(rt: HostRuntime) {
     let mut from = Heard::new(rt.stdin());
     let mut to = Heard::new(rt.stdout());
-    let outcome = report_loop::run(&mut from, &mut to);
-    let status = outcome.status;
-    if let Status::Unreadable = status {
-        fail(&rt, "report: the input cannot be read", from.error());
-    }
-    if let Status::Unwritable = status {
-        fail(&rt, "report: the output cannot be written", to.error());
+    match run(&mut from, &mut to) {
+        Ok(_) => {}
+        Err(Failure::Unreadable(_)) => fail(&rt, "report: the input cannot be read", from.error()),
+        Err(Failure::Unwritable) => fail(&rt, "report: the output cannot be written", to.error()),
     }
 }
