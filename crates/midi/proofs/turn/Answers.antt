@@ -1,39 +1,40 @@
 -- `midi::turn` meets its contract: what is written are the strokes at the buffer's front.
-use mathlib.Core.Path.{◌≡◌, refl, sym, ◌∙◌, ap}
+use mathlib.Core.Path.{refl, sym, ◌∙◌, ap}
 use native.Mathlib.Omega.{arith}
-use lib.ListN.{take}
-use Rattle.std.proofs.Common.{length-take}
+use Rattle.std.proofs.Common.{Err}
+use Rattle.std.proofs.lemmas.List.{length-take-le}
+use Rattle.std.proofs.lemmas.Result.{err_from_is_err_and}
 use Rattle.descriptor.proofs.Written.{all-written}
-use Rattle.refusal.specs.Number.{number}
 use Rattle.midi_file.specs.Strokes.{note_on}
-use Rattle.midi_file.specs.Calls.{read_refusal}
 use Rattle.midi_file.proofs.Judging.{accepted-stands}
 use Rattle.midi.specs.Outcome as outcome
 use Rattle.midi.proofs.turn.Goals as goal
 
+pub returns-then-read-ge3145729 : goal.returns-then-read-ge3145729
+returns-then-read-ge3145729 g c = outcome.overlong c.in-Ok.read refl (omega (arith, c.in-Ok.ensures))
+
+pub returns-in_err-count : goal.returns-in_err-count
+returns-in_err-count g c =
+    let p = err_from_is_err_and c.from_residual.result c.from_residual.ensures.1 in
+    outcome.refused c.in-Ok.read c.in_err-count.field-0.0 (p.1 ∙ ap Err p.2) (omega arith) c.in_err-count.ensures.verdict
+
 pub slice_bounds-write-end : goal.slice_bounds-write-end
 slice_bounds-write-end g c =
-    let w = c.read-reading in
-    let file = take c.fill-got.result.count c.fill-got.new.buf in
-    let accepted : read_refusal (note_on c.args.bells) file c.args.out.now ≡ 0 = sym w.ensures.verdict ∙ ap number c.in_default.is in
-    let strokes = accepted-stands _ _ _ _ _ accepted w.ensures.count w.ensures.buffer in
-    omega (arith, strokes.1.1)
+    let w = c.in_ok-count.ensures in
+    let strokes = accepted-stands (note_on c.args.bells) _ _ _ _ (sym w.verdict) w.count w.buffer in
+    sym (length-take-le _ _ strokes.1.1)
 
-pub slice_bounds-write-end-2 : goal.slice_bounds-write-end-2
-slice_bounds-write-end-2 g c =
-    let w = c.read-reading in
-    let file = take c.fill-got.result.count c.fill-got.new.buf in
-    let accepted : read_refusal (note_on c.args.bells) file c.args.out.now ≡ 0 = sym w.ensures.verdict ∙ ap number c.in_default.is in
-    let strokes = accepted-stands _ _ _ _ _ accepted w.ensures.count w.ensures.buffer in
+pub shared_ref_as_front-write : goal.shared_ref_as_front-write
+shared_ref_as_front-write g c =
+    let w = c.in_ok-count.ensures in
+    let strokes = accepted-stands (note_on c.args.bells) _ _ _ _ (sym w.verdict) w.count w.buffer in
     let within = strokes.1.1 in
-    grind (arith, length-take, within)
+    omega (arith, within, c.read.auto.out, c.told-out)
 
-pub returns-then-sent : goal.returns-then-sent
-returns-then-sent g c =
-    let w = c.read-reading in
-    let u = c.write-sent in
-    let file = take c.fill-got.result.count c.fill-got.new.buf in
-    let accepted : read_refusal (note_on c.args.bells) file c.args.out.now ≡ 0 = sym w.ensures.verdict ∙ ap number c.in_default.is in
-    let strokes = accepted-stands _ _ _ _ _ accepted w.ensures.count w.ensures.buffer in
-    let counted = all-written u.result w.new.out w.result.count strokes.1.1 u.ensures c.if-sent.true in
-    outcome.written refl (omega arith) accepted (rw counted strokes.0) (counted ∙ strokes.1.0)
+pub returns-in-Ok-write : goal.returns-in-Ok-write
+returns-in-Ok-write g c =
+    let w = c.in_ok-count.ensures in
+    let strokes = accepted-stands (note_on c.args.bells) _ _ _ _ (sym w.verdict) w.count w.buffer in
+    let counted = all-written c.in-Ok-write.written c.read.new.out c.in_ok-count.count strokes.1.1 c.in-Ok-write.ensures in
+    outcome.written c.in-Ok.read c.in-Ok-write.written refl (omega arith) (sym w.verdict) (rw counted strokes.0)
+    (counted ∙ strokes.1.0)
