@@ -3,48 +3,37 @@
 // that cannot be written.
 #![tactic(auto)]
 
-ghost use Rattle.std.specs.Prelude.{◌≡◌, length};
-ghost use Rattle.card_core.specs.Card.{overlong};
+ghost use Rattle.std.specs.Prelude.{◌≡◌};
 ghost use Rattle.card.specs.Outcome.{Carded};
+ghost use Rattle.card.specs.declared.Failure.TheVariants.{Refused};
 
 use card_core::{OVERLONG, key_of, write_card};
-use decimal::Parsed;
 use descriptor::Heard;
 use fingerprint::Key;
-use refusal::Verdict;
-use std::env::{Env, FillError};
+use refusal::Refusal;
 use std::io;
 
-// The card was written; or it is refused; or a read failed; or the write did.
+// Why there is no card: a read failed; or the card is refused; or the write failed.
 #[derive(Clone, Copy)]
-enum Status {
-    Written,
-    Refused,
+enum Failure {
     Unreadable,
+    Refused(Refusal),
     Unwritable,
 }
 
-// How many bytes of the passage were read, how many of the card were written, what was refused, if something was, and how it ended.
-#[derive(Clone, Copy)]
-struct Outcome {
-    read: usize,
-    written: usize,
-    verdict: Verdict,
-    status: Status,
+impl From<Refusal> for Failure {
+    ghost from_gives = { λ refusal failure. failure ≡ Refused refusal };
+
+    fn from(refusal: Refusal) -> Failure {
+        Failure::Refused(refusal)
+    }
 }
 
 // One byte more than the longest passage, so that a longer one is seen.
 const PASSAGE_ROOM: usize = OVERLONG as usize;
 
-// Room for an argument: more than the digits that are read, so that a longer one is seen.
-const ARGUMENT_ROOM: usize = 16;
-
-// The room of a passage.
-fn passage_buffer() -> [u8; PASSAGE_ROOM]
-    ensures { overlong ≡ length result }
-{
-    [0; PASSAGE_ROOM]
-}
+// The room of a card's record.
+const CARD_ROOM: usize = 4096;
 
 // A clear word on the argument.
 fn complain(rt: &HostRuntime) {
@@ -53,103 +42,58 @@ fn complain(rt: &HostRuntime) {
     );
 }
 
-// Reads the passage, and writes its card.
+// Reads the passage, and writes its card: how many bytes that has.
 fn make_card<R: io::Read, W: io::Write>(
     from: &mut R,
     to: &mut W,
     key: Key,
-    passage: &mut [u8],
-    out: &mut [u8],
-) -> Outcome
+    passage: &mut [u8; PASSAGE_ROOM],
+    out: &mut [u8; CARD_ROOM],
+) -> Result<usize, Failure>
     ensures { Carded key passage.new out.old out.new result }
 {
-    let got = descriptor::fill(from, passage);
-    let read = got.count;
-    if !got.ok {
-        return Outcome {
-            read,
-            written: 0,
-            verdict: Verdict::Accepted,
-            status: Status::Unreadable,
-        };
-    }
-    let card = write_card(&passage[..read], key, out);
-    let verdict = card.verdict;
-    if let Verdict::Refused(_) = verdict {
-        return Outcome {
-            read,
-            written: 0,
-            verdict,
-            status: Status::Refused,
-        };
-    }
-    let used = card.used;
-    let sent = descriptor::write(to, &out[..used]);
-    if sent.ok {
-        return Outcome {
-            read,
-            written: sent.count,
-            verdict,
-            status: Status::Written,
-        };
-    }
-    Outcome {
-        read,
-        written: 0,
-        verdict,
-        status: Status::Unwritable,
+    let Ok(read) = descriptor::fill(from, passage) else {
+        return Err(Failure::Unreadable);
+    };
+    let used = write_card(&passage[..read], key, out)?;
+    match descriptor::write(to, &out[..used]) {
+        Ok(written) => Ok(written),
+        Err(_) => Err(Failure::Unwritable),
     }
 }
 
 // Says on standard error why there is no card.
 fn say(
     rt: &HostRuntime,
-    outcome: Outcome,
+    failure: Failure,
     unread: Option<io::Error>,
     unwritten: Option<io::Error>,
 ) {
-    let status = outcome.status;
-    let verdict = outcome.verdict;
-    match status {
-        Status::Written => {}
-        Status::Refused => {
-            refusal_line::say(&mut rt.stderr(), verdict.number());
+    match failure {
+        Failure::Refused(refusal) => {
+            let _ = refusal_line::say(&mut rt.stderr(), refusal.number());
         }
-        Status::Unreadable => descriptor::fail(rt, "card: the passage cannot be read", unread),
-        Status::Unwritable => descriptor::fail(rt, "card: the card cannot be written", unwritten),
+        Failure::Unreadable => descriptor::fail(rt, "card: the passage cannot be read", unread),
+        Failure::Unwritable => descriptor::fail(rt, "card: the card cannot be written", unwritten),
     }
 }
 
-// Whether there is no argument at a place.
-fn is_absent(rt: &HostRuntime, i: usize) -> bool {
-    let mut text = [0u8; ARGUMENT_ROOM];
-    let told = rt.arg(i, &mut text);
-    matches!(told, Err(FillError::NotPresent))
-}
-
-// The number that the argument at a place says, or none: one that the room does not hold says none.
-fn number_at(rt: &HostRuntime, i: usize) -> Parsed {
-    let mut text = [0u8; ARGUMENT_ROOM];
-    match rt.arg(i, &mut text) {
-        Ok(n) => decimal::parse(&text[..n]),
-        Err(_) => Parsed::Bad,
-    }
+// The key that the one argument names.
+fn key_named(rt: &HostRuntime) -> Option<Key> {
+    let [number] = argument::numbers::<_, 1>(rt)?;
+    Some(key_of(number))
 }
 
 fn main(rt: HostRuntime) {
-    if !is_absent(&rt, 2) {
-        complain(&rt);
-        return;
-    }
-    let argument = number_at(&rt, 1);
-    let Parsed::Number(number) = argument else {
+    let Some(key) = key_named(&rt) else {
         complain(&rt);
         return;
     };
-    let mut passage = passage_buffer();
-    let mut out = [0u8; 4096];
+    let mut passage = [0u8; PASSAGE_ROOM];
+    let mut out = [0u8; CARD_ROOM];
     let mut from = Heard::new(rt.stdin());
     let mut to = Heard::new(rt.stdout());
-    let outcome = make_card(&mut from, &mut to, key_of(number), &mut passage, &mut out);
-    say(&rt, outcome, from.error(), to.error());
+    if let Err(failure) = make_card(&mut from, &mut to, key, &mut passage, &mut out) {
+        say(&rt, failure, from.error(), to.error());
+    }
 }

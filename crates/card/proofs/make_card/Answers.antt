@@ -1,37 +1,37 @@
 -- `card::make_card` meets its contract: what is written is the record at the buffer's front.
-use mathlib.Core.Path.{◌≡◌, refl, sym, ◌∙◌, ap}
+use mathlib.Core.Path.{refl, sym, ◌∙◌, ap}
 use native.Mathlib.Omega.{arith}
 use lib.ListN.{take}
-use Rattle.std.proofs.Common.{length-take}
+use Rattle.std.proofs.Common.{Err}
+use Rattle.std.proofs.lemmas.List.{length-take-le}
+use Rattle.std.proofs.lemmas.Result.{err_from_is_err_and}
 use Rattle.descriptor.proofs.Written.{all-written}
-use Rattle.refusal.specs.Number.{number}
-use Rattle.card_core.specs.Card.{card_refusal}
 use Rattle.card_core.proofs.Cards.{stands}
 use Rattle.card.specs.Outcome as outcome
 use Rattle.card.proofs.make_card.Goals as goal
 
+pub returns-in_err-used : goal.returns-in_err-used
+returns-in_err-used g c =
+    let p = err_from_is_err_and c.from_residual.result c.from_residual.ensures.1 in
+    outcome.refused c.in-Ok.read c.in_err-used.field-0.0 (p.1 ∙ ap Err p.2) c.in-Ok.ensures.0 c.in_err-used.ensures.verdict
+
 pub slice_bounds-write-end : goal.slice_bounds-write-end
 slice_bounds-write-end g c =
-    let w = c.write_card-card in
-    let passage = take c.fill-got.result.count c.fill-got.new.buf in
-    let accepted : card_refusal c.args.key passage c.args.out.now ≡ 0 = sym w.ensures.verdict ∙ ap number c.in_default.is in
-    let within = (stands _ _ _ _ _ accepted w.ensures.used w.ensures.buffer).2 in
-    omega (arith, within)
+    let w = c.in_ok-used.ensures in
+    let card = stands c.args.key (take c.in-Ok.read c.fill.new.buf) c.args.out.now _ _ (sym w.verdict) w.used w.buffer in
+    sym (length-take-le _ _ card.2)
 
-pub slice_bounds-write-end-2 : goal.slice_bounds-write-end-2
-slice_bounds-write-end-2 g c =
-    let w = c.write_card-card in
-    let passage = take c.fill-got.result.count c.fill-got.new.buf in
-    let accepted : card_refusal c.args.key passage c.args.out.now ≡ 0 = sym w.ensures.verdict ∙ ap number c.in_default.is in
-    let within = (stands _ _ _ _ _ accepted w.ensures.used w.ensures.buffer).2 in
-    grind (arith, length-take, within)
+pub shared_ref_as_front-write : goal.shared_ref_as_front-write
+shared_ref_as_front-write g c =
+    let w = c.in_ok-used.ensures in
+    let card = stands c.args.key (take c.in-Ok.read c.fill.new.buf) c.args.out.now _ _ (sym w.verdict) w.used w.buffer in
+    let within = card.2 in
+    omega (arith, within, c.write_card.auto.out, c.told-out)
 
-pub returns-then-sent : goal.returns-then-sent
-returns-then-sent g c =
-    let w = c.write_card-card in
-    let u = c.write-sent in
-    let passage = take c.fill-got.result.count c.fill-got.new.buf in
-    let accepted : card_refusal c.args.key passage c.args.out.now ≡ 0 = sym w.ensures.verdict ∙ ap number c.in_default.is in
-    let record-stands = stands _ _ _ _ _ accepted w.ensures.used w.ensures.buffer in
-    let counted = all-written u.result w.new.out w.result.used record-stands.2 u.ensures c.if-sent.true in
-    outcome.written refl c.fill-got.ensures.0 accepted (rw counted record-stands.0) (counted ∙ record-stands.1)
+pub returns-in-Ok-write : goal.returns-in-Ok-write
+returns-in-Ok-write g c =
+    let w = c.in_ok-used.ensures in
+    let card = stands c.args.key (take c.in-Ok.read c.fill.new.buf) c.args.out.now _ _ (sym w.verdict) w.used w.buffer in
+    let counted = all-written c.in-Ok-write.written c.write_card.new.out c.in_ok-used.used card.2 c.in-Ok-write.ensures in
+    outcome.written c.in-Ok.read c.in-Ok-write.written refl c.in-Ok.ensures.0 (sym w.verdict) (rw counted card.0)
+    (counted ∙ card.1)
