@@ -1,5 +1,5 @@
 -- Stages, watches and answers to a byte as numbers, one behind another (differential/calls.py).
-use Rattle.std.specs.Prelude.{ℕ, ◌*◌, cond, List}
+use Rattle.std.specs.Prelude.{ℕ, ◌*◌, cond, List, Option, Some, None}
 use Rattle.lists.specs.Lists.{tabulate}
 use Rattle.stage.specs.declared.Gap.{Gap}
 use Rattle.stage.specs.declared.Mark.{Mark}
@@ -7,8 +7,6 @@ use Rattle.stage.specs.declared.Progression.{Progression}
 use Rattle.stage.specs.declared.Stage.{Stage}
 use Rattle.stage.specs.Stages.{stage_count, Stages}
 use Rattle.walk.specs.declared.Answer.{Answer}
-use Rattle.walk.specs.declared.Ring.{Ring}
-use Rattle.walk.specs.declared.Ring.TheVariants.{Silent, At}
 use Rattle.matcher.specs.declared.Matcher.{Matcher}
 use Rattle.driver_input.specs.Input.{number_in, numbers_from, is_set}
 use Rattle.driver_values.specs.Cards.{word_in, print_in, card_in}
@@ -42,8 +40,8 @@ unfoldable pub set_in : List ℕ → Progression
 set_in s = record { first = number_in s 0; step = word_in s 1; many = word_in s 2 }
 
 -- Whether a start rang, and which.
-unfoldable pub ring_in : List ℕ → Ring
-ring_in s = cond (is_set (number_in s 0)) (At (number_in s 1)) Silent
+unfoldable pub ring_in : List ℕ → Option ℕ
+ring_in s = cond (is_set (number_in s 0)) (Some (number_in s 1)) None
 
 -- An answer: the ring, how many sets, how many comparisons, 20 sets.
 unfoldable pub answer_in : List ℕ → Answer

@@ -7,13 +7,12 @@ ghost use Rattle.driver_values.specs.Cards.{key_in, print_in, card_in, builder_i
 use driver_input::{from, word};
 use fingerprint::{Fingerprint, Key};
 use signature::{Builder, PLACES, Signature};
-
-const COUNT: u32 = PLACES as u32;
+use std::array;
 
 // How many numbers a card and a half-made card have.
-pub const CARD: u32 = 2 + COUNT;
+pub const CARD: u32 = 2 + PLACES as u32;
 
-pub const BUILDER: u32 = 4 + COUNT;
+pub const BUILDER: u32 = 4 + PLACES as u32;
 
 pub fn key(values: &[u8], i: u32) -> Key
     ensures { result ≡ key_in values.now i }
@@ -30,16 +29,10 @@ pub fn print(values: &[u8], i: u32) -> Fingerprint
 fn prints(values: &[u8]) -> [Fingerprint; PLACES]
     ensures { result ≡ tabulate (print_in values.now) places }
 {
-    let nothing = Fingerprint::empty();
-    let mut prints = [nothing; PLACES];
-    let mut i: u32 = 0;
-    while i < COUNT {
-        prints[i as usize] = print(values, i);
-        i = i + 1;
-    }
-    prints
+    array::from_fn(|i| print(values, i as u32))
 }
 
+#[tactic(auto, unfolding(crate::specs::Cards::card_in))]
 pub fn card(values: &[u8]) -> Signature
     ensures { result ≡ card_in values.now }
 {
@@ -50,6 +43,7 @@ pub fn card(values: &[u8]) -> Signature
     }
 }
 
+#[tactic(auto, unfolding(crate::specs::Cards::builder_in))]
 pub fn builder(values: &[u8]) -> Builder
     ensures { result ≡ builder_in values.now }
 {

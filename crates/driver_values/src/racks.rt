@@ -8,8 +8,7 @@ use driver_input::{from, half, number, word};
 use rack::Rack;
 use rack_names::CARDS;
 use rack_place::Place;
-
-const RACK: usize = CARDS as usize;
+use std::array;
 
 const BEFORE_STAGES: u32 = 2 + CARD;
 
@@ -18,8 +17,9 @@ const BEFORE_PLACES: u32 = 1 + MARK;
 // How many numbers a place and a rack have.
 pub const PLACE: u32 = BEFORE_STAGES + ALL_STAGES;
 
-pub const WHOLE: u32 = BEFORE_PLACES + PLACE * CARDS;
+pub const WHOLE: u32 = BEFORE_PLACES + PLACE * CARDS as u32;
 
+#[tactic(auto, unfolding(crate::specs::Racks::place_in))]
 pub fn place(values: &[u8]) -> Place
     ensures { result ≡ place_in values.now }
 {
@@ -31,19 +31,13 @@ pub fn place(values: &[u8]) -> Place
     }
 }
 
-fn places(values: &[u8]) -> [Place; RACK]
+fn places(values: &[u8]) -> [Place; CARDS]
     ensures { result ≡ places_in values.now }
 {
-    let nothing = Place::none();
-    let mut places = [nothing; RACK];
-    let mut i: u32 = 0;
-    while i < CARDS {
-        places[i as usize] = place(from(values, PLACE * i));
-        i = i + 1;
-    }
-    places
+    array::from_fn(|i| place(from(values, PLACE * (i as u32))))
 }
 
+#[tactic(auto, unfolding(crate::specs::Racks::rack_in))]
 pub fn rack(values: &[u8]) -> Rack
     ensures { result ≡ rack_in values.now }
 {
@@ -54,14 +48,8 @@ pub fn rack(values: &[u8]) -> Rack
     }
 }
 
-pub fn labels(values: &[u8]) -> [u32; RACK]
+pub fn labels(values: &[u8]) -> [u32; CARDS]
     ensures { result ≡ labels_in values.now }
 {
-    let mut labels = rack_names::no_labels();
-    let mut i: u32 = 0;
-    while i < CARDS {
-        labels[i as usize] = word(values, i);
-        i = i + 1;
-    }
-    labels
+    array::from_fn(|i| word(values, i as u32))
 }

@@ -9,16 +9,15 @@ use crate::cards::{CARD, card, print};
 use driver_input::{flag, from, number, word};
 use matcher::Matcher;
 use stage::{Gap, Mark, Progression, STAGES, Stage};
-use walk::{Answer, Ring};
-
-const COUNT: u32 = STAGES as u32;
+use std::array;
+use walk::Answer;
 
 // How many numbers a mark, a stage, all stages, a watch, a set and an answer have, and how many stand before a watch's stages.
 pub const MARK: u32 = 2;
 
 pub const STAGE: u32 = 7;
 
-pub const ALL_STAGES: u32 = STAGE * COUNT;
+pub const ALL_STAGES: u32 = STAGE * STAGES as u32;
 
 pub const WATCH: u32 = CARD + MARK + ALL_STAGES;
 
@@ -27,10 +26,11 @@ pub const AND_ONE: u32 = WATCH + 1;
 
 const SET: u32 = 3;
 
-pub const ANSWER: u32 = 4 + SET * COUNT;
+pub const ANSWER: u32 = 4 + SET * STAGES as u32;
 
 const BEFORE_STAGES: u32 = CARD + MARK;
 
+#[tactic(auto, unfolding(crate::specs::Watches::mark_in))]
 pub fn mark(values: &[u8]) -> Mark
     ensures { result ≡ mark_in values.now }
 {
@@ -40,6 +40,7 @@ pub fn mark(values: &[u8]) -> Mark
     }
 }
 
+#[tactic(auto, unfolding(crate::specs::Watches::gap_in))]
 fn gap(values: &[u8]) -> Gap
     ensures { result ≡ gap_in values.now }
 {
@@ -49,6 +50,7 @@ fn gap(values: &[u8]) -> Gap
     }
 }
 
+#[tactic(auto, unfolding(crate::specs::Watches::stage_in))]
 pub fn stage(values: &[u8]) -> Stage
     ensures { result ≡ stage_in values.now }
 {
@@ -63,16 +65,10 @@ pub fn stage(values: &[u8]) -> Stage
 pub fn stages(values: &[u8]) -> [Stage; STAGES]
     ensures { result ≡ stages_in values.now }
 {
-    let nothing = Stage::none();
-    let mut stages = [nothing; STAGES];
-    let mut i: u32 = 0;
-    while i < COUNT {
-        stages[i as usize] = stage(from(values, STAGE * i));
-        i = i + 1;
-    }
-    stages
+    array::from_fn(|i| stage(from(values, STAGE * (i as u32))))
 }
 
+#[tactic(auto, unfolding(crate::specs::Watches::watch_in))]
 pub fn watch(values: &[u8]) -> Matcher
     ensures { result ≡ watch_in values.now }
 {
@@ -83,6 +79,7 @@ pub fn watch(values: &[u8]) -> Matcher
     }
 }
 
+#[tactic(auto, unfolding(crate::specs::Watches::set_in))]
 fn set(values: &[u8]) -> Progression
     ensures { result ≡ set_in values.now }
 {
@@ -96,30 +93,18 @@ fn set(values: &[u8]) -> Progression
 fn sets(values: &[u8]) -> [Progression; STAGES]
     ensures { result ≡ tabulate (λ i. set_in (numbers_from values.now (3 * i))) stage_count }
 {
-    let nothing = Progression {
-        first: 0,
-        step: 0,
-        many: 0,
-    };
-    let mut sets = [nothing; STAGES];
-    let mut i: u32 = 0;
-    while i < COUNT {
-        sets[i as usize] = set(from(values, SET * i));
-        i = i + 1;
-    }
-    sets
+    array::from_fn(|i| set(from(values, SET * (i as u32))))
 }
 
 // A start that rang, where the first number says so.
-fn ring(values: &[u8]) -> Ring
+#[tactic(auto, unfolding(crate::specs::Watches::ring_in))]
+fn ring(values: &[u8]) -> Option<u64>
     ensures { result ≡ ring_in values.now }
 {
-    if flag(values, 0) {
-        return Ring::At(number(values, 1));
-    }
-    Ring::Silent
+    flag(values, 0).then_some(number(values, 1))
 }
 
+#[tactic(auto, unfolding(crate::specs::Watches::answer_in))]
 pub fn answer(values: &[u8]) -> Answer
     ensures { result ≡ answer_in values.now }
 {
