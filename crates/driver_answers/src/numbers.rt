@@ -1,33 +1,24 @@
 // Answers: numbers, buffers and lists on standard output.
 use driver_input::until;
 use fields::Width;
-use refusal::Verdict;
+use refusal::{Refusal, number_of};
 
 // The most numbers that are written at once.
 const FEW: usize = 32;
 
-// Stores numbers one after the other.
-fn put_all(numbers: &[u64], out: &mut [u8]) {
-    let mut i: usize = 0;
-    while i < FEW && i < numbers.len() {
-        fields::put(out, 8 * i, Width::Double, numbers[i]);
-        i = i + 1;
-    }
-}
-
-// Answers with a few numbers.
+// Answers with numbers, one behind another.
 pub fn tell_all(rt: &HostRuntime, numbers: &[u64]) {
-    let mut out = [0u8; 8 * FEW];
-    let many = numbers.len();
-    if many <= FEW {
-        put_all(numbers, &mut out);
-        descriptor::write(&mut rt.stdout(), until(&out, 8 * many));
+    for few in numbers.chunks(FEW) {
+        let mut out = [0u8; 8 * FEW];
+        for (i, number) in few.iter().enumerate() {
+            fields::put(&mut out, 8 * i, Width::Double, *number);
+        }
+        let _ = descriptor::write(&mut rt.stdout(), until(&out, 8 * few.len()));
     }
 }
 
 pub fn tell(rt: &HostRuntime, n: u64) {
-    let one = [n];
-    tell_all(rt, &one);
+    tell_all(rt, &[n]);
 }
 
 pub fn tell_word(rt: &HostRuntime, n: u32) {
@@ -40,27 +31,25 @@ pub fn tell_size(rt: &HostRuntime, n: usize) {
 
 // 1 for yes, 0 for no.
 pub fn tell_whether(rt: &HostRuntime, ok: bool) {
-    if ok {
-        tell(rt, 1);
-    } else {
-        tell(rt, 0);
-    }
+    tell(rt, ok as u64);
 }
 
-pub fn tell_verdict(rt: &HostRuntime, verdict: Verdict) {
-    tell_word(rt, verdict.number());
+// The number of a call's refusal, 0 where it was accepted.
+pub fn tell_verdict<T>(rt: &HostRuntime, outcome: &Result<T, Refusal>) {
+    tell_word(rt, number_of(outcome));
+}
+
+// 1 and a number, or twice 0 where there is none.
+pub fn tell_option(rt: &HostRuntime, number: Option<u64>) {
+    tell_all(rt, &number.map_or([0, 0], |n| [1, n]));
 }
 
 pub fn tell_buffer(rt: &HostRuntime, bytes: &[u8]) {
     tell_size(rt, bytes.len());
-    descriptor::write(&mut rt.stdout(), bytes);
+    let _ = descriptor::write(&mut rt.stdout(), bytes);
 }
 
 pub fn tell_list(rt: &HostRuntime, numbers: &[u64]) {
-    let mut i: usize = 0;
     tell_size(rt, numbers.len());
-    while i < numbers.len() {
-        tell(rt, numbers[i]);
-        i = i + 1;
-    }
+    tell_all(rt, numbers);
 }
