@@ -15,10 +15,13 @@ use Rattle.record.proofs.Accepted.{put-passed}
 
 module _ (judged : ℕ) (bytes entry : List ℕ) where
   pub put-no-room :
-      judged ≡ 0
+      {n used : ℕ}
+      → judged ≡ 0
       → length entry < length bytes
-      → (7 ≡ put_refusal judged bytes entry) × (entry ≡ put_buffer judged bytes entry)
-  put-no-room e h = rw (e, lt-ltb (length entry) (length bytes) h) (refl, refl)
+      → n ≡ 7
+      → used ≡ 0
+      → (n ≡ put_refusal judged bytes entry) × ((used ≡ put_used judged bytes entry) × (entry ≡ put_buffer judged bytes entry))
+  put-no-room e h en eu = rw (e, lt-ltb (length entry) (length bytes) h) (en, (eu, refl))
 
   pub put_whole :
       (used : ℕ) (exit : List ℕ)

@@ -1,6 +1,6 @@
 -- `card_record::write_signature` meets its contract: its tests are the definition's, and the record is written whole.
 use Prim.Native.Nat.{ℕ, ◌+◌}
-use mathlib.Core.Path.{◌≡◌, sym, ◌∙◌, ap}
+use mathlib.Core.Path.{◌≡◌, refl, sym, ◌∙◌, ap}
 use mathlib.Core.Bool.{true}
 use native.Mathlib.Omega.{arith}
 use borrow.Author.Tests.{not-false}
@@ -21,9 +21,9 @@ returns-then-buf-size c =
     let size = c.signature_size-size.ensures ∙ ap (λ (k : ℕ). signature_length k + 4) c.levels-k.ensures in
     let full =
     put-no-room (card_judged a.signature) (signature_record a.signature) a.buf.now (rw good)
-    (omega (arith, signature-size a.signature))
+    (omega (arith, signature-size a.signature)) refl refl
     in
-    record { verdict = full.0; used = tt; buffer = full.1 }
+    record { verdict = full.0; used = tt; buffer = full.1.1 }
 
 pub put_signature-requires : goal.put_signature-requires
 put_signature-requires c =

@@ -1,6 +1,6 @@
 -- `checkpoint_save::save` meets its contract: its tests are the definition's, and the record is written whole.
 use Prim.Native.Nat.{ℕ, ◌+◌}
-use mathlib.Core.Path.{◌≡◌, sym, ◌∙◌, ap}
+use mathlib.Core.Path.{◌≡◌, refl, sym, ◌∙◌, ap}
 use mathlib.Core.Bool.{true}
 use native.Mathlib.Omega.{arith}
 use Rattle.ladder.proofs.Levels.{levels-bound}
@@ -22,9 +22,9 @@ returns-then-buf-size c =
     let said : can_say f w.now.at ≡ true = sym c.can_say.ensures ∙ c.if-not-can_say.false in
     let size = c.checkpoint_size-size.ensures ∙ ap (λ (k : ℕ). checkpoint_length f k + 4) c.levels-k.ensures in
     let refused =
-    put-no-room (watch_judged f w) (checkpoint_record f w) a.buf.now (rw (good, said)) (omega (arith, checkpoint-size f w))
+    put-no-room (watch_judged f w) (checkpoint_record f w) a.buf.now (rw (good, said)) (omega (arith, checkpoint-size f w)) refl refl
     in
-    record { verdict = refused.0; used = tt; buffer = refused.1 }
+    record { verdict = refused.0; used = tt; buffer = refused.1.1 }
 
 pub put_checkpoint-requires : goal.put_checkpoint-requires
 put_checkpoint-requires c =
