@@ -245,8 +245,10 @@ impl Stage {
     pub fn take_off(self, key: Key) -> Stage
         ensures { result ≡ take_off_of key self }
     {
-        let second = self.first.at.saturating_add(self.step.length as u64);
-        if self.held <= 1 || MAX_TAKEN < second {
+        if self.held <= 1
+            || MAX_TAKEN < self.first.at
+            || MAX_TAKEN - self.first.at < (self.step.length as u64)
+        {
             return Stage::none();
         }
         if self.held == 2 {
