@@ -12,9 +12,8 @@ use Rattle.lists.proofs.Laws.{and_left, and_right}
 use Rattle.lists.proofs.Cases.{by-test}
 use Rattle.signature.specs.declared.Signature.{Signature}
 use Rattle.signature.specs.Signature.{signature_fits}
-use Rattle.stage.specs.Stage.{max_taken}
+use Rattle.stage.specs.Stage.{max_taken, next_mark}
 use Rattle.stage.specs.Stages.{no_stages}
-use Rattle.walk.specs.Walk.{next_mark}
 use Rattle.rack_place.specs.declared.Place.{Place}
 use Rattle.rack.specs.declared.Rack.{Rack}
 use Rattle.rack.specs.Rack.{

@@ -99,7 +99,7 @@ same_place :
     → n < length xs
     → f (get_or xs n x) ≡ g (get_or ys n y)
 same_place f g [] ys e n x y l = absurd (omega arith)
-same_place f g (a ∷ xs) [] e n x y l = let z : ◌≡◌ {A = ℕ} 0 1 = cc in absurd (omega arith)
+same_place f g (a ∷ xs) [] e n x y l = absurd cc
 same_place f g (a ∷ xs) (b ∷ ys) e zero x y l = cc
 same_place f g (a ∷ xs) (b ∷ ys) e (suc n) x y l = same_place f g xs ys (cc) n x y (omega arith)
 

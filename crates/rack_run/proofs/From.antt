@@ -13,13 +13,13 @@ use Rattle.lists.proofs.Laws.{and_left, and_right, every-at, every-intro}
 use Rattle.lists.proofs.Cases.{by-test}
 use Rattle.stage.specs.declared.Mark.{Mark}
 use Rattle.stage.specs.declared.Stage.{Stage}
-use Rattle.stage.specs.Stage.{same_gap, gap_to, taken_off, entered}
+use Rattle.stage.specs.Stage.{same_gap, gap_to, taken_off, entered, next_mark}
 use Rattle.stage.specs.Stages.{stage_count, Stages, stage_at, with_stage, no_stages}
 use Rattle.stage.proofs.Stages.{stage-with, stage-with-other, no-stage-at}
 use Rattle.matcher.specs.declared.Matcher.{Matcher}
 use Rattle.walk.specs.declared.Round.{Round}
 use Rattle.walk.specs.declared.Walk.{Walk}
-use Rattle.walk.specs.Walk.{no_answer, next_mark, promoted_under, matches, tried, ripe, visited, descended, walked_from}
+use Rattle.walk.specs.Walk.{no_answer, promoted_under, matches, tried, ripe, visited, descended, walked_from}
 use Rattle.matcher.specs.Stroke.{walked}
 use Rattle.rack.specs.Rack.{listed_from, all_from}
 

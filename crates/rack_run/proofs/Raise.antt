@@ -6,27 +6,25 @@ use mathlib.Core.Path.{◌≡◌, refl, sym, ◌∙◌, ap, subst}
 use mathlib.Core.Logic.{inl, inr}
 use mathlib.Core.Bool.{Bool}
 use mathlib.Core.List.{List, [], ◌∷◌, ◌++◌, map, map-append}
-use mathlib.Core.Option
-use mathlib.Core.Option.{Option, none, some}
+use mathlib.Core.Option as math
 use native.Mathlib.Decide.{ℕ_discrete, dec_le}
 use native.Mathlib.Omega.{arith}
 use borrow.Author.Tests.{eq-eqb, ne_eqb}
 use lib.ListN.{length, take, drop, length-drop}
 use lib.Seq.{length-take-le, take-add, drop_at, drop-drop}
+use Rattle.std.specs.Prelude.{Option, None, Some}
 use Rattle.ladder.specs.Prefix.{block}
 use Rattle.ladder.specs.Ladder as ladder
 use Rattle.ladder.specs.Claim.{Occurrence, starts_from, starts_of, times, Rings, SetsAside, Collision, Claim}
 use Rattle.stage.specs.declared.Progression.{Progression}
 use Rattle.walk.specs.declared.Answer.{Answer}
-use Rattle.walk.specs.declared.Ring.{Ring}
-use Rattle.walk.specs.declared.Ring.TheVariants.{Silent, At}
 use Rattle.raising.specs.Raised.{raised_ring, raised_set, raised_answer}
 use Rattle.refinement.specs.Refinement.{read_ring, read_set, read_answer}
 use Rattle.rack_run.specs.Names.{up_set, up, ClaimSince}
 
-read-ring : (c : ℕ) (r : Ring) → read_ring (raised_ring c r) ≡ Option.map (λ s. c + s) (read_ring r)
-read-ring c Silent = refl
-read-ring c (At start) = refl
+read-ring : (c : ℕ) (r : Option ℕ) → read_ring (raised_ring c r) ≡ math.map (λ s. c + s) (read_ring r)
+read-ring c None = refl
+read-ring c (Some start) = refl
 
 read-sets :
     (c n : ℕ) (l : List Progression)
@@ -91,11 +89,11 @@ module _ (c s : ℕ) (a : ladder.Answer) where
   aside_up l q = omega (arith, times-up l)
 
   ring-up : c ≤ s → Rings a (s - c) → Rings (up c a) s
-  ring-up l r = rw r (ap {B = Option ℕ} some (omega arith))
+  ring-up l r = rw r (ap {B = math.Option ℕ} math.some (omega arith))
 
-raised-ring : (c s : ℕ) (r : Option ℕ) → Option.map (λ x. c + x) r ≡ some s → (c ≤ s) × (r ≡ some (s - c))
-raised-ring c s none e = let z : ◌≡◌ {A = ℕ} 0 1 = cc in absurd (omega arith)
-raised-ring c s (some x) e = let h : c + x ≡ s = cc in (omega arith, ap {B = Option ℕ} some (omega arith))
+raised-ring : (c s : ℕ) (r : math.Option ℕ) → math.map (λ x. c + x) r ≡ math.some s → (c ≤ s) × (r ≡ math.some (s - c))
+raised-ring c s math.none e = absurd cc
+raised-ring c s (math.some x) e = let h : c + x ≡ s = cc in (omega arith, ap {B = math.Option ℕ} math.some (omega arith))
 
 -- A place of the bytes behind the first c, as the stream counts it, and a block there.
 drop-take : (c n : ℕ) (l : List ℕ) → c ≤ n → c ≤ length l → drop c (take n l) ≡ take (n - c) (drop c l)

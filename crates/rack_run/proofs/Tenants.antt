@@ -12,11 +12,10 @@ use Rattle.fingerprint.specs.declared.Key.{Key}
 use Rattle.signature.specs.declared.Signature.{Signature}
 use Rattle.signature.specs.Signature.{signature_fits}
 use Rattle.stage.specs.declared.Mark.{Mark}
-use Rattle.stage.specs.Stage.{max_taken}
+use Rattle.stage.specs.Stage.{max_taken, next_mark}
 use Rattle.stage.specs.Stages.{no_stages}
 use Rattle.matcher.specs.declared.Matcher.{Matcher}
 use Rattle.matcher.specs.Matcher.{matcher_fits, blank, fresh}
-use Rattle.walk.specs.Walk.{next_mark}
 use Rattle.matcher.specs.Stroke.{stroke_refusal, stroke_answer, after_stroke}
 use Rattle.matcher.proofs.Sound.{after-taken}
 use Rattle.matcher.proofs.FreshFits.{fresh-fits}

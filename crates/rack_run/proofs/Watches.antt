@@ -8,12 +8,11 @@ use borrow.Author.Tests.{lt-ltb}
 use Rattle.ladder.proofs.Levels.{levels-bound}
 use Rattle.lists.proofs.Laws.{every-at}
 use Rattle.signature.proofs.Card.{sound-card}
-use Rattle.stage.specs.Stage.{max_taken}
+use Rattle.stage.specs.Stage.{max_taken, next_mark}
 use Rattle.stage.specs.Stages.{stage_count, stages_fit}
 use Rattle.stage.proofs.Follows.{shape_of, last_of}
 use Rattle.matcher.specs.declared.Matcher.{Matcher}
 use Rattle.matcher.specs.Matcher.{matcher_fits, moved}
-use Rattle.walk.specs.Walk.{next_mark}
 use Rattle.matcher.specs.Stroke.{walked, stroke_refusal}
 use Rattle.matcher.proofs.Sound.{sound, sound-fits, stages-fit, after-taken}
 use Rattle.matcher.proofs.StrokeFits.{stroke-fits}
