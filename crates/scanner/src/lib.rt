@@ -21,7 +21,7 @@ use stage::{MAX_TAKEN, Mark, STAGES, Stage};
 use walk::{Round, Walk};
 
 // Where a run of strokes ended: the watch; how many numbers were noted; all comparisons; the place behind the last byte taken; and why the next
-// byte was refused, if it was.
+// byte was refused, if it was (beside the rest, since the bytes before it were taken).
 #[derive(Clone, Copy)]
 pub struct Ended {
     pub matcher: Matcher,

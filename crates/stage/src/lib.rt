@@ -34,7 +34,8 @@ pub struct Gap {
     pub print: Fingerprint,
 }
 
-// The starts of one stage, an arithmetic progression: how many are held, the first, the last and the step between them.
+// The starts of one stage, an arithmetic progression: how many are held, the first, the last and the step between them. One that lists nothing
+// holds 0 and is all 0, as a record has it (document 01, "Misfit").
 #[derive(Clone, Copy, PartialEq, Eq, Debug)]
 pub struct Stage {
     pub held: u32,
