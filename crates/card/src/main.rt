@@ -13,7 +13,8 @@ use fingerprint::Key;
 use refusal::Refusal;
 use std::io;
 
-// Why there is no card: a read failed; or the card is refused; or the write failed.
+// Why there is no card: a read failed; or the card is refused; or the write failed. One type for `midi` too would have a case, a file that is too
+// long, that is never given here.
 #[derive(Clone, Copy)]
 enum Failure {
     Unreadable,

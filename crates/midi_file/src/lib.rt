@@ -56,6 +56,7 @@ fn scan(track: &[u8], bells: Bells, out: &mut [u8]) -> Result<usize, Refusal>
     let mut running: u8 = 0;
     let mut count: usize = 0;
     'events: loop {
+        // The inner loop over a time's bytes, left with the refusal or the end, is document 01's ("What shape each place takes").
         let mut left = MOST_QUANTITY;
         loop {
             if left == 0 || track.len() <= at {

@@ -5,7 +5,7 @@ ghost use Rattle.midi_file.specs.Strokes.{note_on, note_of};
 use crate::Bells;
 use crate::event::Event;
 
-// What an event gives: a key outside the bells, silence, or a stroke.
+// What an event gives: a key outside the bells, silence, or a stroke. Three cases, so no Option; a Result of one would say them less plainly.
 #[derive(Clone, Copy)]
 pub enum Note {
     Outside,
