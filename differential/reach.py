@@ -127,7 +127,7 @@ MADE = {
 }
 
 # Functions that take and hand back no values of documents 01 and 02 but what a descriptor has, and the driver's own.
-BY_PROGRAMS = {"descriptor", "refusal_line", "report_loop"}
+BY_PROGRAMS = {"argument", "descriptor", "refusal_line", "report_loop"}
 # Parts of values that "nothing" tells whole: a report of no name stands in `Reports::none`, and no power can be told.
 WITHIN = {"rack_report::Report::none", "fingerprint::Power::none"}
 
