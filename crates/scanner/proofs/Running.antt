@@ -183,9 +183,6 @@ module _ (self : Matcher) (input : List ℕ) (from : ℕ) (entry : List ℕ) whe
           later : now ≡ next_mark w.signature.key w.now byte
           later = rw own (onward below)
 
-          pub run_few : r.answer.comparisons ≤ places
-          run_few = rw walk run-count
-
           pub run_noted :
               (next : ℕ) (left : List ℕ)
               → Stored exit noted (notes_within (length exit) noted now.at r.answer) note_room next left

@@ -29,9 +29,6 @@ module _ {key : Key} {first : Fingerprint} {most : ℕ} {start : Mark} {input : 
 
   -- a byte is left
   module _ (more : i < most) (inside : i < length input) where
-    pub skipping_room : mark.at < max_taken
-    skipping_room = omega (arith, q.room)
-
     pub skipping_stop : is_first first (get_or input i 0) ≡ true → mark ≡ skipped key first most start input
     skipping_stop e = sym (skipped-stop key first input mark (most - i) i (omega arith) inside e) ∙ q.leads
 

@@ -5,5 +5,4 @@ pub mod Follows
 pub mod Levels
 pub mod Moves
 pub mod Room
-pub mod Tests
 pub mod Stages
