@@ -150,7 +150,7 @@ impl Run {
     // The byte goes through the first watch, the second and so on.
     fn through_watches(&mut self, byte: u8) {
         for watch in self.watches.iter_mut().take(self.many) {
-            if let Ok(stroke) = watch.stroke(byte) {
+            if let Ok(stroke) = &watch.stroke(byte) {
                 *watch = stroke.matcher;
                 self.sums.add_comparisons(stroke.answer.comparisons);
                 self.sums.add_ring(stroke.answer.ring);
@@ -160,7 +160,7 @@ impl Run {
 
     // The byte goes through the rack.
     fn through_rack(&mut self, byte: u8) {
-        if let Ok(struck) = self.rack.stroke(byte) {
+        if let Ok(struck) = &self.rack.stroke(byte) {
             self.rack = struck.rack;
             self.sums.add_reports(&struck.reports);
         }
