@@ -3,91 +3,103 @@
 #![tactic(auto)]
 
 use card_core::make;
+use checkpoint_format::Format;
 use checkpoint_restore::restore;
 use checkpoint_save::save;
 use fingerprint::Key;
 use matcher::Matcher;
-use rack::{CARDS, Rack, Reports};
+use rack::{Rack, Reports};
+use refusal::Refusal;
 use std::io;
-use walk::Ring;
+
+// What ends the program early: a call that is refused, or a line that cannot be written.
+#[derive(Drop)]
+enum Failure {
+    Refused(Refusal),
+    Unwritten(io::Error),
+}
+
+impl From<Refusal> for Failure {
+    fn from(refusal: Refusal) -> Self {
+        Failure::Refused(refusal)
+    }
+}
+
+impl From<io::Error> for Failure {
+    fn from(error: io::Error) -> Self {
+        Failure::Unwritten(error)
+    }
+}
 
 // A ring at byte t.
-fn say(rt: &HostRuntime, t: u64, ring: Ring) -> io::Result<()> {
-    if let Ring::At(start) = ring {
+fn say(rt: &HostRuntime, t: u64, ring: Option<u64>) -> io::Result<()> {
+    if let Some(start) = ring {
         println!(rt; "{start} rings at byte {t}")?;
     }
     Ok(())
 }
 
 // The watch with these bytes taken; each ring is said.
-fn take(rt: &HostRuntime, watch: Matcher, bytes: &[u8]) -> io::Result<Matcher> {
-    let mut w = watch;
-    let mut i: usize = 0;
-    while i < bytes.len() {
-        let stroke = w.stroke(bytes[i]);
-        w = stroke.matcher;
-        let answer = stroke.answer;
-        let ring = answer.ring;
-        say(rt, w.now.at, ring)?;
-        i = i + 1;
+fn take(rt: &HostRuntime, mut watch: Matcher, bytes: &[u8]) -> Result<Matcher, Failure> {
+    for byte in bytes {
+        let stroke = watch.stroke(*byte)?;
+        watch = stroke.matcher;
+        say(rt, watch.now.at, stroke.answer.ring)?;
     }
-    Ok(w)
-}
-
-// The name under which there is a ring.
-fn say_name(rt: &HostRuntime, name: u16, ring: Ring) -> io::Result<()> {
-    if let Ring::At(_) = ring {
-        print!(rt; "name {name}: ")?;
-    }
-    Ok(())
+    Ok(watch)
 }
 
 // The rings of all names at byte t, by rising name.
-fn say_all(rt: &HostRuntime, t: u64, reports: Reports) -> io::Result<()> {
-    let mut i: u32 = 0;
-    while i < CARDS {
-        let report = reports.reports[i as usize];
-        let answer = report.answer;
-        let ring = answer.ring;
-        say_name(rt, report.name, ring)?;
-        say(rt, t, ring)?;
-        i = i + 1;
+fn say_all(rt: &HostRuntime, t: u64, reports: &Reports) -> io::Result<()> {
+    for report in reports.all() {
+        if report.answer.ring.is_some() {
+            print!(rt; "name {}: ", report.name)?;
+        }
+        say(rt, t, report.answer.ring)?;
     }
     Ok(())
 }
 
 // The rack with these bytes taken.
-fn take_all(rt: &HostRuntime, before: Rack, bytes: &[u8]) -> io::Result<Rack> {
-    let mut rack = before;
-    let mut i: usize = 0;
-    while i < bytes.len() {
-        let struck = rack.stroke(bytes[i]);
+fn take_all(rt: &HostRuntime, mut rack: Rack, bytes: &[u8]) -> Result<Rack, Failure> {
+    for byte in bytes {
+        let struck = rack.stroke(*byte)?;
         rack = struck.rack;
-        let reports = struck.reports;
-        say_all(rt, rack.now.at, reports)?;
-        i = i + 1;
+        say_all(rt, rack.now.at, &struck.reports)?;
     }
     Ok(rack)
 }
 
+// One passage: its watch is parked in the middle of it, and resumed.
+fn one_passage(rt: &HostRuntime, key: Key) -> Result<(), Failure> {
+    let card = make(b"ding dong ding ", key)?;
+    let watch = take(rt, Matcher::start(card)?, b"dong ding dong d")?;
+    let mut buffer = [0; 750];
+    save(watch, Format::Wide, &mut buffer)?;
+    let resumed = restore(card, &buffer)?.matcher;
+    take(rt, resumed, b"ing dong ding ding dong")?;
+    Ok(())
+}
+
 // Two passages on one line; the second is put in later, and is matched from there on.
-fn two_passages(rt: &HostRuntime) -> io::Result<()> {
-    let key = Key::new(48271);
-    let empty = Rack::begin(key).rack;
-    let one = empty.put_in(7, make(b"ding dong", key).signature).rack;
+fn two_passages(rt: &HostRuntime, key: Key) -> Result<(), Failure> {
+    let one = Rack::begin(key)?.put_in(7, make(b"ding dong", key)?)?;
     let begun = take_all(rt, one, b"dong ding dong ")?;
-    let two = begun.put_in(3, make(b"ng ding", key).signature).rack;
+    let two = begun.put_in(3, make(b"ng ding", key)?)?;
     take_all(rt, two, b"ding dong ding dong")?;
     Ok(())
 }
 
+fn run(rt: &HostRuntime) -> Result<(), Failure> {
+    let key = Key::new(48271);
+    one_passage(rt, key)?;
+    two_passages(rt, key)
+}
+
 fn main(rt: HostRuntime) -> io::Result<()> {
-    let card = make(b"ding dong ding ", Key::new(48271)).signature;
-    let fresh = Matcher::start(card).matcher;
-    let before = take(&rt, fresh, b"dong ding dong d")?;
-    let mut buffer = [0u8; 750];
-    save(before, &mut buffer);
-    let resumed = restore(card, &buffer).matcher;
-    take(&rt, resumed, b"ing dong ding ding dong")?;
-    two_passages(&rt)
+    match run(&rt) {
+        Ok(()) => Ok(()),
+        Err(Failure::Refused(refusal)) => eprintln!(rt; "X {}", refusal.number()),
+        Err(Failure::Unwritten(error)) => Err(error),
+    }
 }
