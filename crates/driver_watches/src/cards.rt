@@ -6,34 +6,44 @@ use driver_answers::numbers::{tell_size, tell_verdict, tell_whether, tell_word};
 use driver_answers::values::{tell_builder, tell_card, tell_key};
 use driver_input::{buffer, byte, number, past_buffer, word};
 use driver_values::cards::{BUILDER, builder, card, key, print};
-use signature::{Builder, Building, Finished, levels, prefix_length, running_fits};
+use refusal::Refusal;
+use signature::{Builder, Signature, levels, prefix_length, running_fits};
 
-fn tell_building(rt: &HostRuntime, made: Building) {
-    let verdict = made.verdict;
-    tell_verdict(rt, verdict);
-    tell_builder(rt, made.builder);
+// A half-made card, or the one that holds nothing, which is read from no numbers.
+fn tell_begun(rt: &HostRuntime, begun: Result<Builder, Refusal>) {
+    tell_verdict(rt, &begun);
+    tell_builder(rt, begun.unwrap_or(builder(&[])));
 }
 
-fn tell_finished(rt: &HostRuntime, done: Finished) {
-    let verdict = done.verdict;
-    tell_verdict(rt, verdict);
-    tell_card(rt, done.signature);
+fn push(rt: &HostRuntime, half_made: Builder, byte: u8) {
+    let mut builder = half_made;
+    let verdict = builder.push(byte);
+    tell_verdict(rt, &verdict);
+    tell_builder(rt, builder);
 }
 
-fn tell_read(rt: &HostRuntime, read: SignatureRead) {
-    let verdict = read.verdict;
-    tell_verdict(rt, verdict);
-    tell_size(rt, read.taken);
-    tell_card(rt, read.signature);
+fn tell_made(rt: &HostRuntime, made: Result<Signature, Refusal>) {
+    tell_verdict(rt, &made);
+    tell_card(rt, made.unwrap_or(Signature::none()));
+}
+
+fn tell_read(rt: &HostRuntime, read: Result<SignatureRead, Refusal>) {
+    tell_verdict(rt, &read);
+    let card = read.unwrap_or(SignatureRead {
+        signature: Signature::none(),
+        taken: 0,
+    });
+    tell_size(rt, card.taken);
+    tell_card(rt, card.signature);
 }
 
 pub fn call(rt: &HostRuntime, op: u64, values: &[u8]) {
     match op {
-        1 => tell_building(rt, Builder::begin(word(values, 0), key(values, 1))),
-        2 => tell_building(rt, builder(values).push(byte(values, BUILDER))),
-        3 => tell_finished(rt, builder(values).finish()),
+        1 => tell_begun(rt, Builder::begin(word(values, 0), key(values, 1))),
+        2 => push(rt, builder(values), byte(values, BUILDER)),
+        3 => tell_made(rt, builder(values).finish()),
         5 => tell_read(rt, read_signature(buffer(values))),
-        6 => tell_finished(rt, make(buffer(values), key(past_buffer(values), 0))),
+        6 => tell_made(rt, make(buffer(values), key(past_buffer(values), 0))),
         8 => tell_whether(rt, builder(values).fits()),
         9 => tell_whether(rt, card(values).fits()),
         10 => tell_word(rt, levels(word(values, 0))),

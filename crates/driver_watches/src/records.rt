@@ -1,45 +1,45 @@
 // Calls that write into a buffer that they are lent: records, and what is read from MIDI files. The buffer is their last value.
 use card_core::write_card;
 use card_record::write_signature;
-use checkpoint_save::{save, save_behind, save_narrow, save_narrow_behind};
+use checkpoint_format::Format;
+use checkpoint_save::{save, save_behind};
 use driver_answers::numbers::{tell_buffer, tell_size, tell_verdict};
 use driver_input::{LENT, buffer, byte, from, lend, number, past_buffer};
 use driver_values::cards::{CARD, card, key};
 use driver_values::watches::{AND_ONE, WATCH, watch};
 use midi_file::Bells;
-use record::Written;
+use refusal::Refusal;
 
-fn midi(values: &[u8], lent: &mut [u8]) -> Written {
+fn midi(values: &[u8], lent: &mut [u8]) -> Result<usize, Refusal> {
     let bells = Bells {
         lowest: byte(values, 0),
         highest: byte(values, 1),
     };
-    let reading = midi_file::read(buffer(from(values, 2)), bells, lent);
-    let verdict = reading.verdict;
-    Written {
-        verdict,
-        used: reading.count,
-    }
+    midi_file::read(buffer(from(values, 2)), bells, lent)
 }
 
-// Parks a watch; the length of a used part stands behind the watch.
-fn park(op: u64, values: &[u8], lent: &mut [u8]) -> Written {
-    let watch = watch(values);
-    let used = number(values, WATCH) as usize;
-    match op {
-        20 => save(watch, lent),
-        21 => save_behind(watch, lent, used),
-        22 => save_narrow(watch, lent),
-        _ => save_narrow_behind(watch, lent, used),
-    }
+// The length of the used part, behind the watch.
+fn used(values: &[u8]) -> usize {
+    number(values, WATCH) as usize
 }
 
-fn written(op: u64, values: &[u8], lent: &mut [u8]) -> Written {
+fn written(op: u64, values: &[u8], lent: &mut [u8]) -> Result<usize, Refusal> {
     match op {
         4 => write_signature(card(values), lent),
         7 => write_card(buffer(values), key(past_buffer(values), 0), lent),
-        48 => midi(values, lent),
-        _ => park(op, values, lent),
+        20 => save(watch(values), Format::Wide, lent),
+        21 => save_behind(watch(values), Format::Wide, lent, used(values)),
+        22 => save(watch(values), Format::Narrow, lent),
+        23 => save_behind(watch(values), Format::Narrow, lent, used(values)),
+        _ => midi(values, lent),
+    }
+}
+
+// The bytes used where the call is refused: those used before.
+fn unwritten(op: u64, values: &[u8]) -> usize {
+    match op {
+        21 | 23 => used(values),
+        _ => 0,
     }
 }
 
@@ -58,8 +58,7 @@ pub fn call(rt: &HostRuntime, op: u64, values: &[u8]) {
     let mut room = [0u8; LENT];
     let lent = lend(last(op, values), &mut room);
     let written = written(op, values, lent);
-    let verdict = written.verdict;
-    tell_verdict(rt, verdict);
-    tell_size(rt, written.used);
+    tell_verdict(rt, &written);
+    tell_size(rt, written.unwrap_or(unwritten(op, values)));
     tell_buffer(rt, lent);
 }
