@@ -1,12 +1,12 @@
 // The parts of records: fields, heads, sizes. A place and what is put there stand before the buffer, the last value.
 use checkpoint_format::{Format, checkpoint_size};
 use driver_answers::numbers::{
-    tell, tell_buffer, tell_size, tell_verdict, tell_whether, tell_word,
+    tell, tell_buffer, tell_option, tell_size, tell_verdict, tell_whether, tell_word,
 };
 use driver_answers::values::{tell_key, tell_print};
 use driver_input::{LENT, buffer, flag, from, lend, number, word};
 use driver_values::cards::{key, print};
-use fields::{Found, Width, field_at, number_at};
+use fields::{Width, field_at, number_at};
 use record::{check_head, key_at, print_at, put_head, put_key, put_print, put_word, word_at};
 
 // The width of 2 or 4 bytes, else that of 8.
@@ -16,16 +16,6 @@ fn width(n: u64) -> Width {
         4 => Width::Word,
         _ => Width::Double,
     }
-}
-
-fn tell_found(rt: &HostRuntime, found: Found) {
-    if let Found::Number(number) = found {
-        tell(rt, 1);
-        tell(rt, number);
-        return;
-    }
-    tell(rt, 0);
-    tell(rt, 0);
 }
 
 fn put(op: u64, values: &[u8], lent: &mut [u8]) {
@@ -39,22 +29,17 @@ fn put(op: u64, values: &[u8], lent: &mut [u8]) {
     }
 }
 
+// Three numbers stand before the buffer of a field, else two.
 fn altered(rt: &HostRuntime, op: u64, values: &[u8]) {
     let mut room = [0u8; LENT];
-    let mut before: u32 = 2;
-    if op == 98 {
-        before = 3;
-    }
+    let before = if op == 98 { 3 } else { 2 };
     let lent = lend(from(values, before), &mut room);
     put(op, values, lent);
     tell_buffer(rt, lent);
 }
 
 fn sizes(rt: &HostRuntime, wide: bool, t: u64, k: u32) {
-    let mut format = Format::Narrow;
-    if wide {
-        format = Format::Wide;
-    }
+    let format = if wide { Format::Wide } else { Format::Narrow };
     tell_size(rt, format.width().bytes());
     tell(rt, format.kind());
     tell(rt, format.least());
@@ -65,29 +50,20 @@ fn sizes(rt: &HostRuntime, wide: bool, t: u64, k: u32) {
     tell_size(rt, checkpoint_size(format, k));
 }
 
+// A field's place and width stand before the buffer; so do the kind and the least length that a head is to have.
 pub fn call(rt: &HostRuntime, op: u64, values: &[u8]) {
-    let at = number(values, 0) as usize;
+    let first = number(values, 0);
+    let second = number(values, 1);
+    let at = first as usize;
+    let bytes = buffer(from(values, 2));
     match op {
-        96 => tell_found(
-            rt,
-            field_at(buffer(from(values, 2)), at, width(number(values, 1))),
-        ),
-        97 => tell(
-            rt,
-            number_at(buffer(from(values, 2)), at, width(number(values, 1))),
-        ),
+        96 => tell_option(rt, field_at(bytes, at, width(second))),
+        97 => tell(rt, number_at(bytes, at, width(second))),
         99 => tell_word(rt, word_at(buffer(from(values, 1)), at)),
         101 => tell_key(rt, key_at(buffer(from(values, 1)), at)),
         103 => tell_print(rt, print_at(buffer(from(values, 1)), at)),
-        106 => tell_verdict(
-            rt,
-            check_head(
-                buffer(from(values, 2)),
-                number(values, 0),
-                number(values, 1),
-            ),
-        ),
-        107 => sizes(rt, flag(values, 0), number(values, 1), word(values, 2)),
+        106 => tell_verdict(rt, &check_head(bytes, first, second)),
+        107 => sizes(rt, flag(values, 0), second, word(values, 2)),
         98 | 100 | 102 | 104 | 105 => altered(rt, op, values),
         _ => {}
     }

@@ -8,14 +8,14 @@ use powers::Powers;
 use signature::PLACES;
 
 fn tests(rt: &HostRuntime, one: Fingerprint, other: Fingerprint) {
-    tell_whether(rt, one.equals(other));
+    tell_whether(rt, one == other);
     tell_whether(rt, one.fits());
     tell_whether(rt, one.is_of_byte());
 }
 
 fn key_tests(rt: &HostRuntime, one: Key, other: Key) {
     tell_whether(rt, one.fits());
-    tell_whether(rt, one.equals(other));
+    tell_whether(rt, one == other);
 }
 
 // The power that number i of a key and number j of an exponent make.
@@ -28,11 +28,8 @@ fn tell_power(rt: &HostRuntime, print: Fingerprint, power: Power) {
 }
 
 fn tell_shifts(rt: &HostRuntime, print: Fingerprint, shifts: [Power; PLACES]) {
-    let mut i: usize = 0;
-    while i < PLACES {
-        let shift = shifts[i];
+    for shift in shifts {
         tell_power(rt, print, shift);
-        i = i + 1;
     }
 }
 
@@ -41,13 +38,10 @@ fn table(values: &[u8]) -> Powers {
 }
 
 fn call_of_powers(rt: &HostRuntime, op: u64, values: &[u8]) {
+    let one = power(values, 0, 1);
     match op {
-        73 => tell_power(
-            rt,
-            print(values, 4),
-            power(values, 0, 1).times(power(values, 2, 3)),
-        ),
-        74 => tell_power(rt, print(values, 2), power(values, 0, 1).squared()),
+        73 => tell_power(rt, print(values, 4), one.times(power(values, 2, 3))),
+        74 => tell_power(rt, print(values, 2), one.squared()),
         75 => tell_power(rt, print(values, 3), table(values).raise(word(values, 2))),
         76 => tell_shifts(rt, print(values, 3), table(values).shifts(word(values, 2))),
         77 => tell_key(rt, table(values).key()),
@@ -56,27 +50,25 @@ fn call_of_powers(rt: &HostRuntime, op: u64, values: &[u8]) {
     }
 }
 
-pub fn call(rt: &HostRuntime, op: u64, values: &[u8]) {
+// What a call makes of its first fingerprint, which others, a key or a power follow.
+fn made(op: u64, values: &[u8]) -> Fingerprint {
     let one = print(values, 0);
     match op {
-        64 => tell_print(rt, one.push(key(values, 1), byte(values, 2))),
-        65 => tell_print(
-            rt,
-            one.join(key(values, 1), print(values, 2), number(values, 3)),
-        ),
-        66 => tell_print(
-            rt,
-            one.cut(key(values, 1), print(values, 2), number(values, 3)),
-        ),
-        67 => tests(rt, one, print(values, 1)),
+        64 => one.push(key(values, 1), byte(values, 2)),
+        65 => one.join(key(values, 1), print(values, 2), number(values, 3)),
+        66 => one.cut(key(values, 1), print(values, 2), number(values, 3)),
+        70 => one.join_by(print(values, 1), power(values, 2, 3)),
+        71 => one.join_times(print(values, 1), power(values, 2, 3), word(values, 4)),
+        _ => one.cut_by(print(values, 1), power(values, 2, 3)),
+    }
+}
+
+pub fn call(rt: &HostRuntime, op: u64, values: &[u8]) {
+    match op {
+        64..=66 | 70..=72 => tell_print(rt, made(op, values)),
+        67 => tests(rt, print(values, 0), print(values, 1)),
         68 => tell_power(rt, print(values, 2), power(values, 0, 1)),
         69 => tell_print(rt, Fingerprint::of_byte(byte(values, 0))),
-        70 => tell_print(rt, one.join_by(print(values, 1), power(values, 2, 3))),
-        71 => tell_print(
-            rt,
-            one.join_times(print(values, 1), power(values, 2, 3), word(values, 4)),
-        ),
-        72 => tell_print(rt, one.cut_by(print(values, 1), power(values, 2, 3))),
         _ => call_of_powers(rt, op, values),
     }
 }

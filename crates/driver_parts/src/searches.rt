@@ -7,21 +7,12 @@ use driver_input::{buffer, byte, from, number, past_buffer, word};
 use fingerprint::Key;
 use matcher::Matcher;
 use naive_search::{collides, more, occurs, print_of};
-use rack_names::CARDS;
+use rack_names::no_labels;
 use rack_place::Place;
 use rack_report::Reports;
 use signature::Signature;
 use stage::{Mark, Stage};
 use walk::Answer;
-
-fn tell_no_labels(rt: &HostRuntime) {
-    let labels = rack_names::no_labels();
-    let mut i: u32 = 0;
-    while i < CARDS {
-        tell_word(rt, labels[i as usize]);
-        i = i + 1;
-    }
-}
 
 fn nothing(rt: &HostRuntime) {
     tell_card(rt, Signature::none());
@@ -30,7 +21,9 @@ fn nothing(rt: &HostRuntime) {
     tell_place(rt, Place::none());
     tell_answer(rt, Answer::none());
     tell_reports(rt, Reports::none());
-    tell_no_labels(rt);
+    for label in no_labels() {
+        tell_word(rt, label);
+    }
     tell_key(rt, Key::none());
     tell_mark(rt, Mark::origin());
 }
@@ -38,21 +31,13 @@ fn nothing(rt: &HostRuntime) {
 // The stream is the first value behind a number, and what is searched in it the second.
 pub fn call(rt: &HostRuntime, op: u64, values: &[u8]) {
     let rest = from(values, 1);
+    let stream = buffer(rest);
+    let pattern = buffer(past_buffer(rest));
     match op {
-        112 => tell_whether(
-            rt,
-            occurs(
-                buffer(rest),
-                number(values, 0) as usize,
-                buffer(past_buffer(rest)),
-            ),
-        ),
+        112 => tell_whether(rt, occurs(stream, number(values, 0) as usize, pattern)),
         113 => tell_word(rt, more(word(values, 0), word(values, 1), byte(values, 2))),
-        114 => tell_word(rt, print_of(buffer(rest), word(values, 0))),
-        115 => tell_whether(
-            rt,
-            collides(buffer(rest), buffer(past_buffer(rest)), word(values, 0)),
-        ),
+        114 => tell_word(rt, print_of(stream, word(values, 0))),
+        115 => tell_whether(rt, collides(stream, pattern, word(values, 0))),
         116 => tell_word(rt, naive_search::stages(number(values, 0) as usize)),
         120 => nothing(rt),
         _ => {}
