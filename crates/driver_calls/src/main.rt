@@ -2,7 +2,7 @@
 // differential/calls.py says how calls and answers are written, and has the table of calls.
 #![tactic(auto)]
 
-use driver_input::{behind, buffer, from, number, past_buffer, until};
+use driver_input::{buffer, from, number, past_buffer, until};
 use driver_parts::{fields_of, prints, reports, searches, stages};
 use driver_racks::{places, racks};
 use driver_watches::{cards, records, walks, watches};
@@ -29,31 +29,25 @@ fn call(rt: &HostRuntime, op: u64, values: &[u8]) {
 
 // Call after call, each a buffer of its own, as long as there is input left and less than before.
 fn run(rt: &HostRuntime, input: &[u8]) {
-    let mut at: usize = 0;
-    while at < input.len() {
-        let left = behind(input, at);
+    let mut left = input;
+    while !left.is_empty() {
         let own = buffer(left);
         call(rt, number(own, 0), from(own, 1));
-        let rest = past_buffer(left).len();
-        if input.len() - at <= rest {
+        let rest = past_buffer(left);
+        if left.len() <= rest.len() {
             return;
         }
-        at = input.len() - rest;
+        left = rest;
     }
 }
 
 // Reads the calls and runs them.
-fn serve(rt: &HostRuntime, room: &mut [u8]) {
-    let got = descriptor::fill(&mut rt.stdin(), room);
-    run(rt, until(room, got.count));
-}
-
-// The same with the program's own buffer.
-fn serve_within(rt: &HostRuntime, room: &mut [u8; ROOM]) {
-    serve(rt, room);
+fn serve(rt: &HostRuntime, room: &mut [u8; ROOM]) {
+    let count = descriptor::fill(&mut rt.stdin(), room).unwrap_or_else(|failed| failed.count);
+    run(rt, until(room, count));
 }
 
 fn main(rt: HostRuntime) {
     let mut room = [0u8; ROOM];
-    serve_within(&rt, &mut room);
+    serve(&rt, &mut room);
 }
