@@ -2,58 +2,92 @@
 // differential/calls.py says how calls and answers are written, and has the table of calls.
 #![tactic(auto)]
 
-mod bytes; // bytes.rt: numbers, buffers and lists at places, and answers
-mod cards; // cards.rt: cards and half-made cards
-mod calls_of_cards; // calls_of_cards.rt: the maker's calls
-mod watches; // watches.rt: stages, watches and answers to a byte
-mod calls_of_watches; // calls_of_watches.rt: strokes, scans and resumptions
-mod calls_that_write; // calls_that_write.rt: records and MIDI files, into a buffer that is lent
-mod racks; // racks.rt: racks and their calls
-mod calls_of_programs; // calls_of_programs.rt: MIDI files, and the printing program's steps
-mod calls_of_parts; // calls_of_parts.rt: fingerprints and single stages
-
-use crate::bytes::{behind, from, number, until};
+use driver_input::{from, number, past_buffer, past_list, until};
+use driver_parts::{prints, reports, stages};
+use driver_racks::racks;
+use driver_values::cards::{BUILDER, CARD};
+use driver_values::racks::WHOLE;
+use driver_values::watches::{AND_ONE, STAGE, WATCH};
+use driver_watches::{cards, records, watches};
 
 // The most bytes of calls in one run.
 const ROOM: usize = 1048576;
+
+// What stands behind the values of a call of cards or of watches.
+fn past_watch(op: u64, values: &[u8]) -> &[u8] {
+    match op {
+        1 => from(values, 2),
+        2 => from(values, BUILDER + 1),
+        3 | 8 => from(values, BUILDER),
+        4 | 24 => past_buffer(from(values, CARD)),
+        5 => past_buffer(values),
+        6 => from(past_buffer(values), 1),
+        7 => past_buffer(from(past_buffer(values), 1)),
+        9 | 16 => from(values, CARD),
+        17 | 18 => from(values, AND_ONE),
+        19 | 20 | 22 => past_buffer(from(values, WATCH)),
+        21 | 23 => past_buffer(from(values, AND_ONE)),
+        25 => past_list(past_buffer(from(values, AND_ONE))),
+        26 => from(values, WATCH),
+        _ => from(values, WATCH + 3),
+    }
+}
+
+// What stands behind the values of any other call.
+fn past(op: u64, values: &[u8]) -> &[u8] {
+    match op {
+        0..=31 => past_watch(op, values),
+        32 => from(values, 1),
+        33 => from(values, WHOLE + 1 + CARD),
+        34 | 35 => from(values, WHOLE + 1),
+        36 => from(values, WHOLE),
+        48 => past_buffer(past_buffer(from(values, 2))),
+        56 => past_buffer(values),
+        57 => past_buffer(past_buffer(from(values, AND_ONE))),
+        64 | 68 => from(values, 3),
+        65 | 66 => from(values, 4),
+        67 => from(values, 2),
+        80 => from(values, STAGE + 1),
+        _ => from(values, STAGE + 3),
+    }
+}
 
 // One call, at the front of the input; what is left behind it. Where no call has its number, nothing is left.
 fn call<'a>(rt: &HostRuntime, input: &'a [u8]) -> &'a [u8] {
     let op = number(input, 0);
     let values = from(input, 1);
     match op {
-        0..=15 => calls_of_cards::call(rt, op, values),
-        16..=31 => calls_of_watches::call(rt, op, values),
-        32..=47 => racks::call(rt, op, values),
-        48..=63 => calls_of_programs::call(rt, op, values),
-        _ => calls_of_parts::call(rt, op, values),
+        1..=9 => cards::call(rt, op, values),
+        16..=27 => watches::call(rt, op, values),
+        32..=36 => racks::call(rt, op, values),
+        48 => records::call(rt, op, values),
+        56 | 57 => reports::call(rt, op, values),
+        64..=68 => prints::call(rt, op, values),
+        80 | 81 => stages::call(rt, op, values),
+        _ => return &values[..0],
     }
+    past(op, values)
 }
 
 // Call after call, as long as there is input left and less than before.
 fn run(rt: &HostRuntime, input: &[u8]) {
-    let mut at: usize = 0;
-    while at < input.len() {
-        let left = call(rt, behind(input, at)).len();
-        if input.len() - at <= left {
+    let mut left = input;
+    while !left.is_empty() {
+        let rest = call(rt, left);
+        if left.len() <= rest.len() {
             return;
         }
-        at = input.len() - left;
+        left = rest;
     }
 }
 
 // Reads the calls and runs them.
-fn serve(rt: &HostRuntime, room: &mut [u8]) {
-    let got = descriptor::fill(&mut rt.stdin(), room);
-    run(rt, until(room, got.count));
-}
-
-// The same with the program's own buffer.
-fn serve_within(rt: &HostRuntime, room: &mut [u8; ROOM]) {
-    serve(rt, room);
+fn serve(rt: &HostRuntime, room: &mut [u8; ROOM]) {
+    let count = descriptor::fill(&mut rt.stdin(), room).unwrap_or_else(|failed| failed.count);
+    run(rt, until(room, count));
 }
 
 fn main(rt: HostRuntime) {
     let mut room = [0u8; ROOM];
-    serve_within(&rt, &mut room);
+    serve(&rt, &mut room);
 }

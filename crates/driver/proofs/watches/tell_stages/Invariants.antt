@@ -1,9 +1,0 @@
--- `driver::watches::tell_stages` is safe and ends.
-use Prim.Native.Nat.{◌-◌}
-use Rattle.driver.proofs.watches.tell_stages.Given as goal
-
-abbrev pub invariant-loop-i : goal.invariant-loop-i
-invariant-loop-i l = Unit {0}
-
-abbrev pub decreases-loop-i : goal.decreases-loop-i
-decreases-loop-i l = 20 - l.i
