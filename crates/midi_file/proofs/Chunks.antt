@@ -8,7 +8,8 @@ use native.Mathlib.Numerals.{add-one}
 use native.Mathlib.Nat.{pow-suc, pow-le-pow_right}
 use native.Mathlib.Omega.{arith}
 use lib.Dec.{leb, eqb}
-use lib.ListN.{length}
+use lib.ListN.{length, get_or, take, drop}
+use lib.Seq.{get_or-take, get_or-drop}
 use borrow.Author.Tests.{eq-eqb, ne_eqb, leb-true, eqb-true, not-false}
 use Rattle.std.proofs.Common.{nat_eq, Result, Ok, Err}
 use Rattle.std.specs.Cmp.Lexicographic.{pointwise}
@@ -56,6 +57,10 @@ counted-more file at number i q small =
       same = rw (add-one, number_at, ← q.same);
       small = rw (add-one, pow-suc) (omega (arith, q.small, small));
     }
+
+-- a byte of a part of the file
+pub part-byte : (file : List ℕ) (at n i : ℕ) → i < n → get_or (take (at + n - at) (drop at file)) i 0 ≡ byte file (at + i)
+part-byte file at n i l = get_or-take (at + n - at) (drop at file) i 0 (omega arith) ∙ get_or-drop at file i 0
 
 -- two slices are equal where their bytes are the same
 pub same-pointwise : (a b : List ℕ) → pointwise nat_eq a b ≡ same_bytes a b

@@ -29,8 +29,8 @@ fn number_at(file: &[u8], at: usize, n: usize) -> usize
     ensures { result ≡ number_at file.now at n }
 {
     let mut number: usize = 0;
-    for i in 0..n {
-        number = 256 * number + file[at + i] as usize;
+    for &byte in &file[at..at + n] {
+        number = 256 * number + byte as usize;
     }
     number
 }

@@ -2,5 +2,5 @@
 use Rattle.midi_file.proofs.Chunks.{Counted}
 use Rattle.midi_file.proofs.chunk.number_at.Given as goal
 
-abbrev pub invariant-loop-i : goal.invariant-loop-i
-invariant-loop-i l = Counted l.file l.at l.number l.i
+abbrev pub invariant-loop-byte : goal.invariant-loop-byte
+invariant-loop-byte l = Counted l.file l.at l.number l.byte-index
