@@ -5,7 +5,7 @@ use driver_input::{byte, number, word};
 use driver_values::cards::{key, print};
 use fingerprint::{Fingerprint, Key, Power};
 use powers::Powers;
-use signature::PLACES;
+use signature::{MAX_LENGTH, levels};
 
 fn tests(rt: &HostRuntime, one: Fingerprint, other: Fingerprint) {
     tell_whether(rt, one == other);
@@ -27,9 +27,15 @@ fn tell_power(rt: &HostRuntime, print: Fingerprint, power: Power) {
     tell_print(rt, print.join_by(Fingerprint::empty(), power));
 }
 
-fn tell_shifts(rt: &HostRuntime, print: Fingerprint, shifts: [Power; PLACES]) {
-    for shift in shifts {
-        tell_power(rt, print, shift);
+// The shifts for m bytes, as far as a table for so many bytes reaches, and that of the whole: what the others are is not told.
+fn tell_shifts(rt: &HostRuntime, print: Fingerprint, powers: Powers, most: u32, m: u32) {
+    let last = levels(most.min(MAX_LENGTH)) as usize;
+    for (i, shift) in powers.shifts(m).iter().enumerate() {
+        if i <= last || i == levels(m) as usize {
+            tell_power(rt, print, *shift);
+        } else {
+            tell_power(rt, print, Power::none());
+        }
     }
 }
 
@@ -43,7 +49,13 @@ fn call_of_powers(rt: &HostRuntime, op: u64, values: &[u8]) {
         73 => tell_power(rt, print(values, 4), one.times(power(values, 2, 3))),
         74 => tell_power(rt, print(values, 2), one.squared()),
         75 => tell_power(rt, print(values, 3), table(values).raise(word(values, 2))),
-        76 => tell_shifts(rt, print(values, 3), table(values).shifts(word(values, 2))),
+        76 => tell_shifts(
+            rt,
+            print(values, 3),
+            table(values),
+            word(values, 1),
+            word(values, 2),
+        ),
         77 => tell_key(rt, table(values).key()),
         78 => key_tests(rt, key(values, 0), key(values, 1)),
         _ => {}
