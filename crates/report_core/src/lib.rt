@@ -46,7 +46,7 @@ pub struct Begun {
 }
 
 // Bytes were taken: why the next one was refused, if it was; how far the program has come; how many bytes were taken; and how many bytes of
-// lines stand at the buffer's front.
+// lines stand at the buffer's front. (The verdict stands beside the rest: `Feeds` says of a refusal too which bytes were taken before it.)
 #[derive(Clone, Copy)]
 pub struct Fed {
     pub verdict: Verdict,
@@ -108,7 +108,8 @@ fn share(free: usize, most: usize) -> usize
 }
 
 // Takes bytes behind those taken, and puts their lines behind those put: until none is left, one is refused, or the numbers lent have no room for
-// the notes of one byte more. The buffer is never full, since the scan is lent its share alone.
+// the notes of one byte more. The buffer is never full, since the scan is lent its share alone. (The notes are a slice and no array of their number:
+// tried, and the proof did not close, since what an array holds behind a call on a part of it is not known to fit.)
 fn turn(fed: Fed, bytes: &[u8], out: &mut [u8], notes: &mut [u64]) -> Fed
     requires { (fed.taken < length bytes.now) × (fed.used + room ≤ length out.old) × (note_room ≤ length notes.old) × (fed.progress.matcher.now.at ≤ max_taken) × (fed.progress.total ≤ most_comparisons * fed.progress.matcher.now.at) }
     ensures { Turns fed.progress bytes.now fed.taken fed.used out.old result out.new }

@@ -31,6 +31,7 @@ pub enum Failure {
 }
 
 // How far the run has come: what was refused, if something was; how many bytes were read and written; and whether more is to be read.
+// (A verdict stands beside the rest: a refusal ends the run, but `last_lines` says t and the total with it.)
 #[derive(Clone, Copy)]
 struct State {
     progress: Progress,
