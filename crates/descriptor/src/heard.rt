@@ -21,6 +21,18 @@ impl<T> Heard<T> {
         Heard { inner, error: None }
     }
 
+    // What a call said, with its error kept if it failed.
+    fn keep<V>(&mut self, done: io::Result<V>) -> io::Result<V>
+        ensures same { result ≡ done }
+        ensures inner { heard_inner self.new ≡ heard_inner self.old }
+        ensures error { KeepsError self.old self.new result }
+    {
+        if let Err(e) = &done {
+            self.error = Some(*e);
+        }
+        done
+    }
+
     // The last error, if a call failed.
     pub fn error(&self) -> Option<io::Error>
         ensures { result ≡ heard_error self.now }
@@ -37,13 +49,8 @@ impl<R: io::Read> io::Read for Heard<R> {
         ensures bytes { ReadConsumes (R.remaining (heard_inner self.old)) (R.remaining (heard_inner self.new)) result buf.new }
         ensures error { KeepsError self.old self.new result }
     {
-        match self.inner.read(buf) {
-            Ok(count) => Ok(count),
-            Err(e) => {
-                self.error = Some(e);
-                Err(e)
-            }
-        }
+        let read = self.inner.read(buf);
+        self.keep(read)
     }
 }
 
@@ -55,39 +62,24 @@ impl<W: io::Write> io::Write for Heard<W> {
         ensures bytes { WriteAppends (W.contents (heard_inner self.old)) (W.contents (heard_inner self.new)) result bytes.now }
         ensures error { KeepsError self.old self.new result }
     {
-        match self.inner.write(bytes) {
-            Ok(count) => Ok(count),
-            Err(e) => {
-                self.error = Some(e);
-                Err(e)
-            }
-        }
+        let written = self.inner.write(bytes);
+        self.keep(written)
     }
 
     fn flush(&mut self) -> io::Result<()>
         ensures bytes { Keeps (W.contents (heard_inner self.old)) (W.contents (heard_inner self.new)) }
         ensures error { KeepsError self.old self.new result }
     {
-        match self.inner.flush() {
-            Ok(()) => Ok(()),
-            Err(e) => {
-                self.error = Some(e);
-                Err(e)
-            }
-        }
+        let flushed = self.inner.flush();
+        self.keep(flushed)
     }
 
     fn write_all(&mut self, bytes: &[u8]) -> io::Result<()>
         ensures bytes { OnOk result (Appends (W.contents (heard_inner self.old)) (W.contents (heard_inner self.new)) bytes.now) }
         ensures error { KeepsError self.old self.new result }
     {
-        match self.inner.write_all(bytes) {
-            Ok(()) => Ok(()),
-            Err(e) => {
-                self.error = Some(e);
-                Err(e)
-            }
-        }
+        let written = self.inner.write_all(bytes);
+        self.keep(written)
     }
 }
 

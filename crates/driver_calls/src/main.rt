@@ -1,5 +1,6 @@
 // Runs calls of the library: each call comes from standard input with its values, and all that it hands back goes to standard output.
 // differential/calls.py says how calls and answers are written, and has the table of calls.
+// (The input says which call is made, by its number: a `match` on it says so most plainly.)
 #![tactic(auto)]
 
 use driver_input::{buffer, from, number, past_buffer, until};

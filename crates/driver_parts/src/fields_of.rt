@@ -1,4 +1,5 @@
 // The parts of records: fields, heads, sizes. A place and what is put there stand before the buffer, the last value.
+// (The input says which call is made, by its number: a `match` on it says so most plainly.)
 use checkpoint_format::{Format, checkpoint_size};
 use driver_answers::numbers::{
     tell, tell_buffer, tell_option, tell_size, tell_verdict, tell_whether, tell_word,

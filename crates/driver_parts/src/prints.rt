@@ -1,4 +1,5 @@
 // Fingerprints and powers. A power is seen by what it does to a fingerprint.
+// (The input says which call is made, by its number: a `match` on it says so most plainly.)
 use driver_answers::numbers::tell_whether;
 use driver_answers::values::{tell_key, tell_print};
 use driver_input::{byte, number, word};

@@ -1,4 +1,5 @@
 // The printing program's steps and lines, and decimal numbers. A buffer that is written into is the last value.
+// (The input says which call is made, by its number: a `match` on it says so most plainly.)
 use driver_answers::numbers::{
     tell, tell_buffer, tell_option, tell_size, tell_verdict, tell_whether,
 };

@@ -1,4 +1,5 @@
 // The plain search, and values that hold nothing.
+// (The input says which call is made, by its number: a `match` on it says so most plainly.)
 use driver_answers::numbers::{tell_whether, tell_word};
 use driver_answers::values::{
     tell_answer, tell_card, tell_key, tell_mark, tell_place, tell_reports, tell_stage, tell_watch,

@@ -1,4 +1,5 @@
 // Single stages, and places in the stream.
+// (The input says which call is made, by its number: a `match` on it says so most plainly.)
 use driver_answers::numbers::{tell, tell_all, tell_whether};
 use driver_answers::values::{tell_set, tell_stage};
 use driver_input::{from, number, word};

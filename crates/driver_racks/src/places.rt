@@ -1,4 +1,5 @@
 // A rack's places, names and reports. The values of a call stand one behind another.
+// (The input says which call is made, by its number: a `match` on it says so most plainly.)
 use driver_answers::numbers::{tell, tell_size, tell_whether, tell_word};
 use driver_answers::values::tell_place;
 use driver_input::{flag, from, half, number, word};

@@ -1,4 +1,5 @@
 // A rack's calls. The values of a call stand one behind another.
+// (The input says which call is made, by its number: a `match` on it says so most plainly.)
 use driver_answers::numbers::{tell_verdict, tell_whether};
 use driver_answers::values::{tell_rack, tell_reports};
 use driver_input::{byte, from, half};

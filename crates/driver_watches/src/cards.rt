@@ -1,4 +1,5 @@
 // The maker's calls, cards from records, and the lengths of tested beginnings. The values of a call stand one behind another.
+// (The input says which call is made, by its number: a `match` on it says so most plainly.)
 use crate::records;
 use card_core::{key_of, make};
 use card_record::{SignatureRead, read_signature};

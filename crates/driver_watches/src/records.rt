@@ -1,4 +1,5 @@
 // Calls that write into a buffer that they are lent: records, and what is read from MIDI files. The buffer is their last value.
+// (The input says which call is made, by its number: a `match` on it says so most plainly.)
 use card_core::write_card;
 use card_record::write_signature;
 use checkpoint_format::Format;

@@ -1,4 +1,5 @@
 // What a stroke is made of: the walk over the stages, the watch moved on, answers and their notes.
+// (The input says which call is made, by its number: a `match` on it says so most plainly.)
 use driver_answers::numbers::{tell_list, tell_size, tell_whether};
 use driver_answers::values::{tell_answer, tell_stages, tell_watch};
 use driver_input::{LIST, from, lend_list, number};

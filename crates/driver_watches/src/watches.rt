@@ -1,4 +1,5 @@
 // A watch's calls, and watches from records. The values of a call stand one behind another.
+// (The input says which call is made, by its number: a `match` on it says so most plainly.)
 use crate::records;
 use checkpoint_restore::{Restored, restore};
 use driver_answers::numbers::{tell, tell_list, tell_size, tell_verdict, tell_whether};

@@ -1,1 +1,2 @@
 // The ladder with unlimited lists: definitions in specs/, theorems in proofs/, no code.
+#![tactic(auto)]

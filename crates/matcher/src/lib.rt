@@ -52,7 +52,7 @@ fn stage_fits(stage: Stage, powers: &Powers, m: u32, i: u32, t: u64, since: u64)
 }
 
 // Whether each stage of a watch over m bytes fits at t and lists no start below a count, in one pass; if so, a t up to which no start becomes ripe,
-// which is found if it is asked.
+// which is found if it is asked (a flag: to find it costs time, and a stroke by itself has no use for it).
 fn judge(
     stages: &[Stage; STAGES],
     powers: &Powers,

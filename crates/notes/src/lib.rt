@@ -51,7 +51,8 @@ fn put_sets(notes: &mut [u64], at: usize, t: u64, sets: &[Progression]) -> usize
     next
 }
 
-// Whether a list of so many numbers has room for the notes of one byte from a place on.
+// Whether a list of so many numbers has room for the notes of one byte from a place on. (One line, as in report_lines for its own size: a
+// function for both would be no plainer.)
 fn has_room(size: usize, at: usize) -> bool
     ensures { result ≡ room_for size at }
 {

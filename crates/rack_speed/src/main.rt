@@ -24,10 +24,17 @@ const CHUNK: usize = 65536;
 
 const CHUNKS: u32 = 16777217;
 
-// What stands before the stream: whether lone watches are wanted, and the cards, as many as `many` says (an array, since no memory is asked for).
+// What the stream goes through.
+#[derive(Clone, Copy)]
+enum Way {
+    Watches,
+    Rack,
+}
+
+// What stands before the stream: what it goes through, and the cards, as many as `many` says (an array, since no memory is asked for).
 #[derive(Clone, Copy)]
 struct Front {
-    lone: bool,
+    way: Way,
     cards: [Signature; CARDS],
     many: usize,
 }
@@ -44,7 +51,7 @@ struct Sums {
 // The watches and the rack; which of them the stream goes through; and what it has come to.
 #[derive(Clone, Copy)]
 struct Run {
-    lone: bool,
+    way: Way,
     many: usize,
     watches: [Matcher; CARDS],
     rack: Rack,
@@ -58,9 +65,13 @@ fn behind(bytes: &[u8], n: usize) -> &[u8] {
 
 // Reads what stands before the stream, if it can be read, and what stands behind it. A byte that is missing is 0.
 fn read_front(input: &[u8]) -> Option<(Front, &[u8])> {
-    let mode = input.first().copied().unwrap_or(0);
+    let way = match input.first()? {
+        b'w' => Way::Watches,
+        b'r' => Way::Rack,
+        _ => return None,
+    };
     let many = input.get(1).copied().unwrap_or(0) as usize;
-    if mode != b'w' && mode != b'r' || CARDS < many {
+    if CARDS < many {
         return None;
     }
     let mut cards = [Signature::none(); CARDS];
@@ -70,11 +81,7 @@ fn read_front(input: &[u8]) -> Option<(Front, &[u8])> {
         *card = read.signature;
         rest = behind(rest, read.taken);
     }
-    let front = Front {
-        lone: mode == b'w',
-        cards,
-        many,
-    };
+    let front = Front { way, cards, many };
     Some((front, rest))
 }
 
@@ -134,7 +141,7 @@ impl Run {
     // The run before the stream's first byte.
     fn begin(front: &Front) -> Option<Run> {
         Some(Run {
-            lone: front.lone,
+            way: front.way,
             many: front.many,
             watches: front.watches(),
             rack: front.rack()?,
@@ -169,10 +176,9 @@ impl Run {
     fn take(&mut self, bytes: &[u8]) {
         self.sums.bytes = self.sums.bytes.wrapping_add(bytes.len() as u64);
         for byte in bytes {
-            if self.lone {
-                self.through_watches(*byte);
-            } else {
-                self.through_rack(*byte);
+            match self.way {
+                Way::Watches => self.through_watches(*byte),
+                Way::Rack => self.through_rack(*byte),
             }
         }
     }

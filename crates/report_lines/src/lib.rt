@@ -62,7 +62,7 @@ fn put_note(buf: &mut [u8], at: usize, note: &[u64]) -> usize
     }
 }
 
-// Whether a buffer of so many bytes has the room from a place on.
+// Whether a buffer of so many bytes has the room from a place on. (One line, as in notes for its own size.)
 fn has_room(size: usize, at: usize) -> bool
     ensures { result ≡ leb (at + room) size }
 {
