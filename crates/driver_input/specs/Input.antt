@@ -1,5 +1,5 @@
 -- The values of a call as bytes (differential/calls.py): numbers of 8 bytes each, little-endian, one behind another.
-use Rattle.std.specs.Prelude.{ℕ, ◌*◌, ◌%◌, min, Bool, List, length, take, drop, ltb}
+use Rattle.std.specs.Prelude.{ℕ, ◌*◌, ◌%◌, min, Bool, List, take, drop, ltb}
 use Rattle.lists.specs.Lists.{tabulate}
 use Rattle.fields.specs.Fields.{number_at}
 

@@ -13,7 +13,7 @@ use Rattle.ladder.specs.Ladder.{Tests, after}
 use Rattle.ladder.specs.Claim.{Collision}
 use Rattle.ladder.proofs.Starts.{Has}
 use Rattle.ladder.proofs.Blocks.{block-take}
-use Rattle.ladder.proofs.Byte.{byte_at, due, agrees}
+use Rattle.ladder.proofs.Byte.{byte_at, due}
 use Rattle.ladder.proofs.Visited.{Comes, rest_has, entered-has}
 use Rattle.ladder.proofs.Stages.{met, after-stage}
 

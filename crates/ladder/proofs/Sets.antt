@@ -5,7 +5,6 @@ use mathlib.Core.Logic.{◌⊎◌, inl, inr}
 use mathlib.Core.List.{List, []}
 use native.Mathlib.Decide.{ℕ_discrete}
 use native.Mathlib.Omega.{arith}
-use lib.ListN.{length}
 use Rattle.ladder.specs.Claim.{starts_of, times}
 use Rattle.ladder.proofs.Levels.{one-level}
 use Rattle.ladder.proofs.Starts.{Has, has_left, has_right, has-append}

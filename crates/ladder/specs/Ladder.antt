@@ -1,7 +1,7 @@
 -- The ladder of document 01 ("Ladder"), with unlimited lists: demand 2 speaks of this one. A stage is the list of its starts.
 -- It is written for any tests: how long the pattern is, and the verdicts of the comparisons. A passage's ladder (`tests_of`) is one.
 -- The history h holds the bytes taken so far, the present one included, so t is its length.
-use Rattle.std.specs.Prelude.{ℕ, zero, suc, ◌+◌, ◌-◌, Bool, false, cond, ◌&&◌, ◌||◌, List, [], ◌∷◌, ◌++◌, length, take, leb, eqb}
+use Rattle.std.specs.Prelude.{ℕ, zero, suc, ◌-◌, Bool, false, cond, ◌&&◌, ◌||◌, List, [], ◌∷◌, ◌++◌, length, take, leb, eqb}
 use Rattle.std.proofs.Math.Option.{Option, none, some}
 use Rattle.ladder.specs.Prefix.{block, levels, prefix_length, prefix}
 
