@@ -229,7 +229,7 @@ def report_start(name, answer, otherwise):
 
 
 def nothing():
-    """What stands beside a refusal; no name; no key; t and F_t of a fresh watch."""
+    """Values that hold nothing; no name; no key; t and F_t of a fresh watch."""
     return NO_CARD, NO_WATCH, NO_STAGE, FREE, NO_ANSWER, NO_REPORTS, (0,) * PLACES, 0, 0, 0
 
 

@@ -84,8 +84,8 @@ def empty_rack(key):
 
 
 def begin_rack(key):
-    # "A rack is begun with a key, which refusal 3 judges." A refused begin hands back the rack with no card, t = 0 and
-    # the key 0 (docs/DECISIONS.md, reading 14).
+    # "A rack is begun with a key, which refusal 3 judges." For a refused begin the driver writes the rack with no card,
+    # t = 0 and the key 0.
     refusal = first_of((not values.key_fits(key), KEY))
     return refusal, empty_rack(0 if refusal else key)
 

@@ -14,7 +14,8 @@ sys.dont_write_bytecode = True
 import calls
 import programs
 
-# For each call the functions that it makes, as crate::function or crate::Type::function.
+# For each call the functions that it makes, itself or by another function of the library, as crate::function or
+# crate::Type::function.
 MADE = {
     # The maker, and cards.
     "begin": "signature::Builder::begin",
@@ -51,7 +52,7 @@ MADE = {
     "begin rack": "rack::Rack::begin",
     "put in": "rack::Rack::put_in",
     "take out": "rack::Rack::take_out",
-    "stroke rack": "rack::Rack::stroke rack_report::Reports::all",
+    "stroke rack": "rack::Rack::stroke",
     "rack fits": "rack::Rack::fits",
     "place with": "rack_place::Place::with",
     "place tests": "rack_place::Place::is_free rack_place::Place::has_name rack_place::Place::label "
@@ -127,10 +128,12 @@ MADE = {
                "stage::Mark::origin",
 }
 
-# Functions that take and hand back no values of documents 01 and 02 but what a descriptor has, and the driver's own.
+# Functions that take and hand back no values of documents 01 and 02 but what a descriptor or a program's arguments have, and
+# the driver's own.
 BY_PROGRAMS = {"argument", "descriptor", "refusal_line", "report_loop"}
-# Parts of values that "nothing" tells whole: a report of no name stands in `Reports::none`, and no power can be told.
-WITHIN = {"rack_report::Report::none", "fingerprint::Power::none"}
+# Parts of values that "nothing" tells whole: a report of no name stands in `Reports::none`, and no power can be told; and the
+# reports that count, over which `example` and `rack_speed` go.
+WITHIN = {"rack_report::Report::none", "fingerprint::Power::none", "rack_report::Reports::all"}
 
 
 def public_functions():

@@ -19,8 +19,8 @@ T, F_T, FIRST_STAGE = CARD, CARD + 1, CARD + 2
 TAKEN, RUNNING, FIRST_PRINT = 2, 3, 4
 STAGE = SIZE["stage"]
 
-# "A refusal returns its number only": what stands beside it is all 0 where no value was handed in that stays what it
-# was (docs/DECISIONS.md, readings 3 and 9).
+# "A refusal returns its number only": in the place of a value the driver writes all 0, or the value handed in, which
+# stays what it was.
 NO_HALF, NO_CARD, NO_WATCH = (0,) * SIZE["half"], (0,) * CARD, (0,) * SIZE["watch"]
 NO_ANSWER, NO_STAGE, NO_STAGES = (0,) * SIZE["answer"], (0,) * STAGE, (0,) * SIZE["stages"]
 

@@ -13,21 +13,20 @@ use fingerprint::Key;
 use refusal::Refusal;
 use std::io;
 
-// Why there is no card: a read failed; or the card is refused; or the write failed. One type for `midi` too would have a case, a file that is too
-// long, that is never given here.
+// How many bytes of the passage were read, and how many of the card were written.
+#[derive(Clone, Copy)]
+struct Made {
+    read: usize,
+    written: usize,
+}
+
+// Why there is no card: a read failed; or the card of so many bytes is refused; or the write failed. (One type for `midi` too would have a case,
+// a file that is too long, that is never given here; `say` and `main` are as there, but for their words and cases.)
 #[derive(Clone, Copy)]
 enum Failure {
     Unreadable,
-    Refused(Refusal),
+    Refused(usize, Refusal),
     Unwritable,
-}
-
-impl From<Refusal> for Failure {
-    ghost from_gives = { λ refusal failure. failure ≡ Refused refusal };
-
-    fn from(refusal: Refusal) -> Failure {
-        Failure::Refused(refusal)
-    }
 }
 
 // One byte more than the longest passage, so that a longer one is seen.
@@ -43,22 +42,25 @@ fn complain(rt: &HostRuntime) {
     );
 }
 
-// Reads the passage, and writes its card: how many bytes that has.
+// Reads the passage, and writes its card.
 fn make_card<R: io::Read, W: io::Write>(
     from: &mut R,
     to: &mut W,
     key: Key,
     passage: &mut [u8; PASSAGE_ROOM],
     out: &mut [u8; CARD_ROOM],
-) -> Result<usize, Failure>
+) -> Result<Made, Failure>
     ensures { Carded key passage.new out.old out.new result }
 {
     let Ok(read) = descriptor::fill(from, passage) else {
         return Err(Failure::Unreadable);
     };
-    let used = write_card(&passage[..read], key, out)?;
+    let used = match write_card(&passage[..read], key, out) {
+        Ok(used) => used,
+        Err(refusal) => return Err(Failure::Refused(read, refusal)),
+    };
     match descriptor::write(to, &out[..used]) {
-        Ok(written) => Ok(written),
+        Ok(written) => Ok(Made { read, written }),
         Err(_) => Err(Failure::Unwritable),
     }
 }
@@ -71,7 +73,7 @@ fn say(
     unwritten: Option<io::Error>,
 ) {
     match failure {
-        Failure::Refused(refusal) => {
+        Failure::Refused(_, refusal) => {
             let _ = refusal_line::say(&mut rt.stderr(), refusal.number());
         }
         Failure::Unreadable => descriptor::fail(rt, "card: the passage cannot be read", unread),

@@ -12,7 +12,7 @@ use refusal::Refusal;
 use signature::{Builder, MAX_LENGTH, Signature};
 
 // The largest number that a key's field holds.
-const MOST_KEY: u32 = 4294967295;
+const MOST_KEY: u32 = u32::MAX;
 
 // One more than the longest passage.
 pub const OVERLONG: u32 = MAX_LENGTH + 1;

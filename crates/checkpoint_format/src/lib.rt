@@ -50,6 +50,7 @@ impl Format {
         }
     }
 
+    // (`kind` and `least` are a match each: a table of both, with its index, would be no plainer.)
     pub fn kind(self) -> u64
         ensures { result ≡ checkpoint_kind self }
     {

@@ -25,6 +25,7 @@ pub fn parse(text: &[u8]) -> Option<u64>
 }
 
 // How many digits a number has.
+// (A count beside a number that is divided: the library has no logarithm.)
 fn digit_count(n: u64) -> usize
     ensures { result ≡ length (decimal n) }
 {
@@ -48,12 +49,9 @@ pub fn put(buf: &mut [u8], at: usize, n: u64) -> usize
         return at;
     }
     let mut left = n;
-    let mut i = at + count;
-    while left >= 10 {
-        i -= 1;
-        buf[i] = b'0' + (left % 10) as u8;
+    for place in (at..at + count).rev() {
+        buf[place] = b'0' + (left % 10) as u8;
         left /= 10;
     }
-    buf[at] = b'0' + left as u8;
     at + count
 }

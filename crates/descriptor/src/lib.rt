@@ -10,7 +10,7 @@ mod heard;
 pub use heard::{Heard, fail};
 use std::io;
 
-// A read or a write that failed, and how many bytes were read before it.
+// A read or a write that failed, and how many bytes were read before it (`ReadOnce` and `Writes` say 0; `fill` alone counts).
 #[derive(Clone, Copy, PartialEq, Eq, Debug)]
 pub struct Failed {
     pub count: usize,

@@ -42,7 +42,7 @@ fn run(rt: &HostRuntime, input: &[u8]) {
     }
 }
 
-// Reads the calls and runs them.
+// Reads the calls and runs them. (As in `driver`: one for both would need a crate and a closure for six lines.)
 fn serve(rt: &HostRuntime, room: &mut [u8; ROOM]) {
     let count = descriptor::fill(&mut rt.stdin(), room).unwrap_or_else(|failed| failed.count);
     run(rt, until(room, count));

@@ -19,23 +19,13 @@ fn width(n: u64) -> Width {
     }
 }
 
-fn put(op: u64, values: &[u8], lent: &mut [u8]) {
-    let at = number(values, 0) as usize;
-    match op {
-        98 => fields::put(lent, at, width(number(values, 1)), number(values, 2)),
-        100 => put_word(lent, at, word(values, 1)),
-        102 => put_key(lent, at, key(values, 1)),
-        104 => put_print(lent, at, print(values, 1)),
-        _ => put_head(lent, word(values, 0), number(values, 1)),
-    }
-}
-
-// Three numbers stand before the buffer of a field, else two.
-fn altered(rt: &HostRuntime, op: u64, values: &[u8]) {
+// Lends a call the buffer at the front of `rest`, and tells how it is then.
+fn tell_altered<F: FnOnce(&mut [u8])>(rt: &HostRuntime, rest: &[u8], alter: F)
+    requires { F.IsAlwaysCallable alter }
+{
     let mut room = [0u8; LENT];
-    let before = if op == 98 { 3 } else { 2 };
-    let lent = lend(from(values, before), &mut room);
-    put(op, values, lent);
+    let lent = lend(rest, &mut room);
+    alter(lent);
     tell_buffer(rt, lent);
 }
 
@@ -51,21 +41,29 @@ fn sizes(rt: &HostRuntime, wide: bool, t: u64, k: u32) {
     tell_size(rt, checkpoint_size(format, k));
 }
 
-// A field's place and width stand before the buffer; so do the kind and the least length that a head is to have.
+// A field's place and width stand before the buffer; so do the kind and the least length that a head is to have. Three numbers stand before a buffer
+// that a field is put into, two before another that is altered.
 pub fn call(rt: &HostRuntime, op: u64, values: &[u8]) {
     let first = number(values, 0);
     let second = number(values, 1);
     let at = first as usize;
-    let bytes = buffer(from(values, 2));
+    let rest = from(values, 2);
+    let bytes = buffer(rest);
     match op {
         96 => tell_option(rt, field_at(bytes, at, width(second))),
         97 => tell(rt, number_at(bytes, at, width(second))),
+        98 => tell_altered(rt, from(values, 3), |lent| {
+            fields::put(lent, at, width(second), number(values, 2))
+        }),
         99 => tell_word(rt, word_at(buffer(from(values, 1)), at)),
+        100 => tell_altered(rt, rest, |lent| put_word(lent, at, word(values, 1))),
         101 => tell_key(rt, key_at(buffer(from(values, 1)), at)),
+        102 => tell_altered(rt, rest, |lent| put_key(lent, at, key(values, 1))),
         103 => tell_print(rt, print_at(buffer(from(values, 1)), at)),
+        104 => tell_altered(rt, rest, |lent| put_print(lent, at, print(values, 1))),
+        105 => tell_altered(rt, rest, |lent| put_head(lent, word(values, 0), second)),
         106 => tell_verdict(rt, &check_head(bytes, first, second)),
         107 => sizes(rt, flag(values, 0), second, word(values, 2)),
-        98 | 100 | 102 | 104 | 105 => altered(rt, op, values),
         _ => {}
     }
 }

@@ -28,10 +28,16 @@ fn tell_power(rt: &HostRuntime, print: Fingerprint, power: Power) {
     tell_print(rt, print.join_by(Fingerprint::empty(), power));
 }
 
+fn table(values: &[u8]) -> Powers {
+    Powers::of(key(values, 0), word(values, 1))
+}
+
 // The shifts for m bytes, as far as a table for so many bytes reaches, and that of the whole: what the others are is not told.
-fn tell_shifts(rt: &HostRuntime, print: Fingerprint, powers: Powers, most: u32, m: u32) {
-    let last = levels(most.min(MAX_LENGTH)) as usize;
-    for (i, shift) in powers.shifts(m).iter().enumerate() {
+fn tell_shifts(rt: &HostRuntime, values: &[u8]) {
+    let print = print(values, 3);
+    let m = word(values, 2);
+    let last = levels(word(values, 1).min(MAX_LENGTH)) as usize;
+    for (i, shift) in table(values).shifts(m).iter().enumerate() {
         if i <= last || i == levels(m) as usize {
             tell_power(rt, print, *shift);
         } else {
@@ -40,48 +46,38 @@ fn tell_shifts(rt: &HostRuntime, print: Fingerprint, powers: Powers, most: u32, 
     }
 }
 
-fn table(values: &[u8]) -> Powers {
-    Powers::of(key(values, 0), word(values, 1))
-}
-
-fn call_of_powers(rt: &HostRuntime, op: u64, values: &[u8]) {
-    let one = power(values, 0, 1);
+// A fingerprint comes first in most calls of fingerprints, and others, a key or a power follow.
+pub fn call(rt: &HostRuntime, op: u64, values: &[u8]) {
+    let one = print(values, 0);
     match op {
-        73 => tell_power(rt, print(values, 4), one.times(power(values, 2, 3))),
-        74 => tell_power(rt, print(values, 2), one.squared()),
-        75 => tell_power(rt, print(values, 3), table(values).raise(word(values, 2))),
-        76 => tell_shifts(
+        64 => tell_print(rt, one.push(key(values, 1), byte(values, 2))),
+        65 => tell_print(
             rt,
-            print(values, 3),
-            table(values),
-            word(values, 1),
-            word(values, 2),
+            one.join(key(values, 1), print(values, 2), number(values, 3)),
         ),
+        66 => tell_print(
+            rt,
+            one.cut(key(values, 1), print(values, 2), number(values, 3)),
+        ),
+        67 => tests(rt, one, print(values, 1)),
+        68 => tell_power(rt, print(values, 2), power(values, 0, 1)),
+        69 => tell_print(rt, Fingerprint::of_byte(byte(values, 0))),
+        70 => tell_print(rt, one.join_by(print(values, 1), power(values, 2, 3))),
+        71 => tell_print(
+            rt,
+            one.join_times(print(values, 1), power(values, 2, 3), word(values, 4)),
+        ),
+        72 => tell_print(rt, one.cut_by(print(values, 1), power(values, 2, 3))),
+        73 => tell_power(
+            rt,
+            print(values, 4),
+            power(values, 0, 1).times(power(values, 2, 3)),
+        ),
+        74 => tell_power(rt, print(values, 2), power(values, 0, 1).squared()),
+        75 => tell_power(rt, print(values, 3), table(values).raise(word(values, 2))),
+        76 => tell_shifts(rt, values),
         77 => tell_key(rt, table(values).key()),
         78 => key_tests(rt, key(values, 0), key(values, 1)),
         _ => {}
-    }
-}
-
-// What a call makes of its first fingerprint, which others, a key or a power follow.
-fn made(op: u64, values: &[u8]) -> Fingerprint {
-    let one = print(values, 0);
-    match op {
-        64 => one.push(key(values, 1), byte(values, 2)),
-        65 => one.join(key(values, 1), print(values, 2), number(values, 3)),
-        66 => one.cut(key(values, 1), print(values, 2), number(values, 3)),
-        70 => one.join_by(print(values, 1), power(values, 2, 3)),
-        71 => one.join_times(print(values, 1), power(values, 2, 3), word(values, 4)),
-        _ => one.cut_by(print(values, 1), power(values, 2, 3)),
-    }
-}
-
-pub fn call(rt: &HostRuntime, op: u64, values: &[u8]) {
-    match op {
-        64..=66 | 70..=72 => tell_print(rt, made(op, values)),
-        67 => tests(rt, print(values, 0), print(values, 1)),
-        68 => tell_power(rt, print(values, 2), power(values, 0, 1)),
-        69 => tell_print(rt, Fingerprint::of_byte(byte(values, 0))),
-        _ => call_of_powers(rt, op, values),
     }
 }

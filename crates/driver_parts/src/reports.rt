@@ -86,50 +86,52 @@ fn verdict(n: u64) -> Verdict {
     }
 }
 
-// 1 and the place behind what was put, or twice 0 where there was no room.
-fn tell_put(rt: &HostRuntime, put: Option<usize>, lent: &[u8]) {
-    tell_option(rt, put.map(|next| next as u64));
-    tell_buffer(rt, lent);
-}
-
-fn put_line(op: u64, values: &[u8], lent: &mut [u8]) -> Option<usize> {
-    let at = number(values, 0);
-    match op {
-        59 => report_core::finish(verdict(at), number(values, 1), number(values, 2), lent),
-        61 => report_lines::put_refusal(lent, at as usize, word(values, 1)),
-        _ => report_lines::put_end(lent, at as usize, number(values, 1), number(values, 2)),
-    }
-}
-
-// A line: three numbers stand before the buffer, or two at a refusal.
-fn line(rt: &HostRuntime, op: u64, values: &[u8]) {
+// Lends a call the buffer at the front of `rest`, and tells 1 and the place behind what was put, or twice 0 where there was no room.
+fn tell_put<F: FnOnce(&mut [u8]) -> Option<usize>>(rt: &HostRuntime, rest: &[u8], put: F)
+    requires { F.IsAlwaysCallable put }
+{
     let mut room = [0u8; LENT];
-    let before = if op == 61 { 2 } else { 3 };
-    let lent = lend(from(values, before), &mut room);
-    let put = put_line(op, values, lent);
-    tell_put(rt, put, lent);
+    let lent = lend(rest, &mut room);
+    let behind = put(lent);
+    tell_option(rt, behind.map(|next| next as u64));
+    tell_buffer(rt, lent);
 }
 
 // The lines of a list of notes, which stands before the buffer.
 fn lines(rt: &HostRuntime, values: &[u8]) {
-    let mut room = [0u8; LENT];
     let mut numbers = [0u64; LIST];
+    let at = number(values, 0) as usize;
     let list = from(values, 1);
     let notes = lend_list(list, &mut numbers);
-    let lent = lend(past_list(list), &mut room);
-    let put = report_lines::put_notes(lent, number(values, 0) as usize, notes);
-    tell_put(rt, put, lent);
+    tell_put(
+        rt,
+        past_list(list),
+        |lent| report_lines::put_notes(lent, at, notes),
+    );
 }
 
+// Three numbers stand before the buffer of a line, or two at a refusal.
 pub fn call(rt: &HostRuntime, op: u64, values: &[u8]) {
+    let first = number(values, 0);
+    let second = number(values, 1);
+    let third = number(values, 2);
+    let at = first as usize;
     match op {
         49 => tell_option(rt, decimal::parse(buffer(values))),
         50 => put_decimal(rt, values),
         56 => tell_begun(rt, report_core::begin(buffer(values))),
         57 => feed(rt, values),
         58 => tell_whether(rt, progress(values).fits()),
+        59 => tell_put(rt, from(values, 3), |lent| {
+            report_core::finish(verdict(first), second, third, lent)
+        }),
         60 => lines(rt, values),
-        59 | 61 | 62 => line(rt, op, values),
+        61 => tell_put(rt, from(values, 2), |lent| {
+            report_lines::put_refusal(lent, at, word(values, 1))
+        }),
+        62 => tell_put(rt, from(values, 3), |lent| {
+            report_lines::put_end(lent, at, second, third)
+        }),
         _ => {}
     }
 }

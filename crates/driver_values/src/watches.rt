@@ -30,6 +30,7 @@ pub const ANSWER: u32 = 4 + SET * STAGES as u32;
 
 const BEFORE_STAGES: u32 = CARD + MARK;
 
+// (A mark and a gap each have a reader, as in checkpoint_restore.)
 #[tactic(auto, unfolding(crate::specs::Watches::mark_in))]
 pub fn mark(values: &[u8]) -> Mark
     ensures { result ≡ mark_in values.now }

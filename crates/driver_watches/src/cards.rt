@@ -10,7 +10,8 @@ use driver_values::cards::{BUILDER, builder, card, key, print};
 use refusal::Refusal;
 use signature::{Builder, Signature, levels, prefix_length, running_fits};
 
-// A half-made card, or the one that holds nothing, which is read from no numbers.
+// A half-made card, or the one that holds nothing, which is read from no numbers. (A verdict and a value: each value has its own words and its
+// own nothing, so one function for all would need a trait over each.)
 fn tell_begun(rt: &HostRuntime, begun: Result<Builder, Refusal>) {
     tell_verdict(rt, &begun);
     tell_builder(rt, begun.unwrap_or(builder(&[])));

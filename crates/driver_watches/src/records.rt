@@ -11,55 +11,69 @@ use driver_values::watches::{AND_ONE, WATCH, watch};
 use midi_file::Bells;
 use refusal::Refusal;
 
-fn midi(values: &[u8], lent: &mut [u8]) -> Result<usize, Refusal> {
+// Lends a call the buffer at the front of `rest`, and tells what the call wrote; where it is refused, the bytes used are those used before.
+fn tell_written<F: FnOnce(&mut [u8]) -> Result<usize, Refusal>>(
+    rt: &HostRuntime,
+    rest: &[u8],
+    used: usize,
+    write: F,
+)
+    requires { F.IsAlwaysCallable write }
+{
+    let mut room = [0u8; LENT];
+    let lent = lend(rest, &mut room);
+    let written = write(lent);
+    tell_verdict(rt, &written);
+    tell_size(rt, written.unwrap_or(used));
+    tell_buffer(rt, lent);
+}
+
+fn tell_saved(rt: &HostRuntime, values: &[u8], format: Format) {
+    tell_written(
+        rt,
+        from(values, WATCH),
+        0,
+        |lent| save(watch(values), format, lent),
+    );
+}
+
+// The length of the used part stands behind the watch.
+fn tell_saved_behind(rt: &HostRuntime, values: &[u8], format: Format) {
+    let used = number(values, WATCH) as usize;
+    tell_written(rt, from(values, AND_ONE), used, |lent| {
+        save_behind(watch(values), format, lent, used)
+    });
+}
+
+fn tell_midi(rt: &HostRuntime, values: &[u8]) {
+    let file = from(values, 2);
     let bells = Bells {
         lowest: byte(values, 0),
         highest: byte(values, 1),
     };
-    midi_file::read(buffer(from(values, 2)), bells, lent)
-}
-
-// The length of the used part, behind the watch.
-fn used(values: &[u8]) -> usize {
-    number(values, WATCH) as usize
-}
-
-fn written(op: u64, values: &[u8], lent: &mut [u8]) -> Result<usize, Refusal> {
-    match op {
-        4 => write_signature(card(values), lent),
-        7 => write_card(buffer(values), key(past_buffer(values), 0), lent),
-        20 => save(watch(values), Format::Wide, lent),
-        21 => save_behind(watch(values), Format::Wide, lent, used(values)),
-        22 => save(watch(values), Format::Narrow, lent),
-        23 => save_behind(watch(values), Format::Narrow, lent, used(values)),
-        _ => midi(values, lent),
-    }
-}
-
-// The bytes used where the call is refused: those used before.
-fn unwritten(op: u64, values: &[u8]) -> usize {
-    match op {
-        21 | 23 => used(values),
-        _ => 0,
-    }
-}
-
-// What stands from the call's last value on.
-fn last(op: u64, values: &[u8]) -> &[u8] {
-    match op {
-        4 => from(values, CARD),
-        7 => from(past_buffer(values), 1),
-        20 | 22 => from(values, WATCH),
-        21 | 23 => from(values, AND_ONE),
-        _ => past_buffer(from(values, 2)),
-    }
+    tell_written(
+        rt,
+        past_buffer(file),
+        0,
+        |lent| midi_file::read(buffer(file), bells, lent),
+    );
 }
 
 pub fn call(rt: &HostRuntime, op: u64, values: &[u8]) {
-    let mut room = [0u8; LENT];
-    let lent = lend(last(op, values), &mut room);
-    let written = written(op, values, lent);
-    tell_verdict(rt, &written);
-    tell_size(rt, written.unwrap_or(unwritten(op, values)));
-    tell_buffer(rt, lent);
+    match op {
+        4 => tell_written(
+            rt,
+            from(values, CARD),
+            0,
+            |lent| write_signature(card(values), lent),
+        ),
+        7 => tell_written(rt, from(past_buffer(values), 1), 0, |lent| {
+            write_card(buffer(values), key(past_buffer(values), 0), lent)
+        }),
+        20 => tell_saved(rt, values, Format::Wide),
+        21 => tell_saved_behind(rt, values, Format::Wide),
+        22 => tell_saved(rt, values, Format::Narrow),
+        23 => tell_saved_behind(rt, values, Format::Narrow),
+        _ => tell_midi(rt, values),
+    }
 }

@@ -29,7 +29,7 @@ blank s = record { signature = s; now = origin; stages = no_stages }
 abbrev pub moved : Matcher → Mark → Stages → Matcher
 moved w now stages = record { signature = w.signature; now = now; stages = stages }
 
--- what stands beside a refusal: the watch that holds nothing
+-- the watch that holds nothing
 abbrev pub no_matcher : Matcher
 no_matcher = blank no_signature
 

@@ -52,7 +52,8 @@ fn stage_fits(stage: Stage, powers: &Powers, m: u32, i: u32, t: u64, since: u64)
 }
 
 // Whether each stage of a watch over m bytes fits at t and lists no start below a count, in one pass; if so, a t up to which no start becomes ripe,
-// which is found if it is asked (a flag: to find it costs time, and a stroke by itself has no use for it).
+// which is found if it is asked (a flag: asked at each byte, a rack's stroke was slower, as measured with A.5, and a
+// stroke by itself has no use for it).
 fn judge(
     stages: &[Stage; STAGES],
     powers: &Powers,
@@ -203,7 +204,8 @@ impl Matcher {
         Ok(Matcher::blank(signature))
     }
 
-    // Takes one byte of the stream. Refusals: 10 misfit, 6 spent.
+    // Takes one byte of the stream. Refusals: 10 misfit, 6 spent. (The walk is called here and in `stroke_shared`: by way of that one the stages
+    // would be copied once more.)
     pub fn stroke(self, byte: u8) -> Result<Stroke, Refusal>
         ensures verdict { number result ≡ stroke_refusal self }
         ensures answer { IfOk result (λ stroke. stroke.answer ≡ stroke_answer self byte) }

@@ -12,21 +12,21 @@ use midi_file::Bells;
 use refusal::Refusal;
 use std::io;
 
-// Why there are no strokes: a read failed; or the file is too long, of which so many bytes were read; or it is refused; or the write failed.
+// How many bytes of the file were read, and how many strokes were written.
+#[derive(Clone, Copy)]
+struct Made {
+    read: usize,
+    written: usize,
+}
+
+// Why there are no strokes: a read failed; or the file is too long, of which so many bytes were read; or it is refused, of so many bytes; or the
+// write failed. (`say` and `main` are as in `card`, but for their words and cases.)
 #[derive(Clone, Copy)]
 enum Failure {
     Unreadable,
     Overlong(usize),
-    Refused(Refusal),
+    Refused(usize, Refusal),
     Unwritable,
-}
-
-impl From<Refusal> for Failure {
-    ghost from_gives = { λ refusal failure. failure ≡ Refused refusal };
-
-    fn from(refusal: Refusal) -> Failure {
-        Failure::Refused(refusal)
-    }
 }
 
 // One byte more than the longest file, so that a longer one is seen.
@@ -36,16 +36,16 @@ const FILE_ROOM: usize = 3145729;
 const STROKE_ROOM: usize = 1048576;
 
 // The largest MIDI key.
-const MOST_KEY: u64 = 127;
+const MOST_KEY: u8 = 127;
 
-// Reads the file, and writes its strokes: how many those are.
+// Reads the file, and writes its strokes.
 fn turn<R: io::Read, W: io::Write>(
     from: &mut R,
     to: &mut W,
     bells: Bells,
     file: &mut [u8; FILE_ROOM],
     out: &mut [u8; STROKE_ROOM],
-) -> Result<usize, Failure>
+) -> Result<Made, Failure>
     ensures { Turned bells file.new out.old out.new result }
 {
     let Ok(read) = descriptor::fill(from, file) else {
@@ -54,9 +54,12 @@ fn turn<R: io::Read, W: io::Write>(
     if file.len() <= read {
         return Err(Failure::Overlong(read));
     }
-    let count = midi_file::read(&file[..read], bells, out)?;
+    let count = match midi_file::read(&file[..read], bells, out) {
+        Ok(count) => count,
+        Err(refusal) => return Err(Failure::Refused(read, refusal)),
+    };
     match descriptor::write(to, &out[..count]) {
-        Ok(written) => Ok(written),
+        Ok(written) => Ok(Made { read, written }),
         Err(_) => Err(Failure::Unwritable),
     }
 }
@@ -73,7 +76,7 @@ fn say(
             let longest = read.saturating_sub(1);
             let _ = eprintln!(rt; "midi: the file is longer than {longest} bytes");
         }
-        Failure::Refused(refusal) => {
+        Failure::Refused(_, refusal) => {
             let _ = refusal_line::say(&mut rt.stderr(), refusal.number());
         }
         Failure::Unreadable => descriptor::fail(rt, "midi: the file cannot be read", unread),
@@ -87,11 +90,7 @@ fn say(
 
 // The MIDI key that a number is, if it is one.
 fn key_of(number: u64) -> Option<u8> {
-    if number <= MOST_KEY {
-        Some(number as u8)
-    } else {
-        None
-    }
+    u8::try_from(number).ok().filter(|key| *key <= MOST_KEY)
 }
 
 // The bells that the two arguments name.

@@ -5,7 +5,7 @@ ghost use Rattle.midi_file.specs.File.{number_at, has_letters, is_whole, is_head
 use refusal::Refusal;
 
 // The first track chunk of a file: where its inside begins, and how many bytes that has.
-#[derive(Clone, Copy)]
+#[derive(Clone, Copy, PartialEq, Eq, Debug)]
 pub struct Track {
     pub start: usize,
     pub size: usize,

@@ -16,14 +16,14 @@ ghost use Rattle.midi_file.specs.Track.{
 };
 
 // A quantity: its value, and the place behind it.
-#[derive(Clone, Copy)]
+#[derive(Clone, Copy, PartialEq, Eq, Debug)]
 pub struct Quantity {
     pub value: usize,
     pub behind: usize,
 }
 
 // An event: a channel message with its status and its data bytes, an exclusive event, or a meta event with its type and its length.
-#[derive(Clone, Copy)]
+#[derive(Clone, Copy, PartialEq, Eq, Debug)]
 pub enum Event {
     Message(u8, u8, u8),
     Exclusive,
@@ -31,7 +31,7 @@ pub enum Event {
 }
 
 // An event, and the place where it ends.
-#[derive(Clone, Copy)]
+#[derive(Clone, Copy, PartialEq, Eq, Debug)]
 pub struct Placed {
     pub event: Event,
     pub end: usize,
@@ -138,7 +138,7 @@ fn meta_at(track: &[u8], at: usize) -> Option<Placed>
     })
 }
 
-// The event at a place, with a running status, or 0 where there is none.
+// The event at a place, with a running status, or 0 where there is none (no Option: `event_at` and `running_behind` of specs/ have 0 for none).
 #[tactic(auto, unfolding(crate::specs::Track::event_at))]
 pub(crate) fn event_at(track: &[u8], running: u8, at: usize) -> Option<Placed>
     ensures { result ≡ event_at track.now running at }

@@ -28,7 +28,7 @@ use crate::event::{Event, MOST_QUANTITY, event_at};
 use crate::note::{Note, note_of};
 
 // The lowest and the highest bell, as MIDI keys; both are inside.
-#[derive(Clone, Copy)]
+#[derive(Clone, Copy, PartialEq, Eq, Debug)]
 pub struct Bells {
     pub lowest: u8,
     pub highest: u8,

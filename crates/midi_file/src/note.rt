@@ -5,8 +5,9 @@ ghost use Rattle.midi_file.specs.Strokes.{note_on, note_of};
 use crate::Bells;
 use crate::event::Event;
 
-// What an event gives: a key outside the bells, silence, or a stroke. Three cases, so no Option; a Result of one would say them less plainly.
-#[derive(Clone, Copy)]
+// What an event gives: a key outside the bells, silence, or a stroke. Three cases, so no Option: `Rule` of
+// specs/Strokes.antt and the laws of the former rule have them as one.
+#[derive(Clone, Copy, PartialEq, Eq, Debug)]
 pub enum Note {
     Outside,
     Silent,

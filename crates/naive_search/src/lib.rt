@@ -124,7 +124,7 @@ pub fn collides(stream: &[u8], pattern: &[u8], key: u32) -> bool
     has_twin(stream, pattern, key)
 }
 
-// How many stages a pattern of m bytes has: how often it is halved, rounding up, until one byte is left.
+// How many stages a pattern of m bytes has: how often it is halved, rounding up, until one byte is left. (The library has no logarithm.)
 pub fn stages(m: usize) -> u32
     ensures { result ≡ levels m }
 {

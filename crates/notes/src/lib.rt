@@ -10,6 +10,7 @@ use stage::{Progression, STAGES};
 use walk::Answer;
 
 // The numbers of a note: its kind, t, and three numbers more. Kind 0 is a ring, with its start; 1 is a set set aside, with first, step and many.
+// (Numbers, no enum: a scan's caller lends a list of numbers, and its clause `notes` says them.)
 pub const NOTE: usize = 5;
 
 // The room that a list must have for the notes of one byte.
@@ -29,10 +30,10 @@ fn put_ring(notes: &mut [u64], at: usize, t: u64, ring: Option<u64>) -> usize
     requires { at + note_size ≤ length notes.old }
     ensures { Stored notes.old at (ring_notes t ring) note_size result notes.new }
 {
-    match ring {
-        Some(start) => put_note(notes, at, [0, t, start, 0, 0]),
-        None => at,
+    if let Some(start) = ring {
+        return put_note(notes, at, [0, t, start, 0, 0]);
     }
+    at
 }
 
 // The notes of sets, one behind another.

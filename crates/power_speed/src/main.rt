@@ -13,7 +13,7 @@ const ROOM: usize = 65536;
 // How many bytes a case has.
 const CASE: usize = 16;
 
-// The number in 4 bytes.
+// The number in 4 bytes. (As `record::word_at`: another crate for one line would be no plainer.)
 fn word(case: &[u8], at: usize) -> u32 {
     fields::number_at(case, at, Width::Word) as u32
 }

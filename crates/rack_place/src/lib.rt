@@ -25,7 +25,8 @@ use rack_names::CARDS;
 use signature::{PLACES, Signature};
 use stage::{Mark, STAGES, Stage};
 
-// A card in a rack: its name, the count at which it was put in, the card and what its stages list. A place whose card has length 0 is free.
+// A card in a rack: its name, the count at which it was put in, the card and what its stages list. A place whose card has length 0 is free
+// (no Option: `free_fits` judges a free place that is not all 0).
 #[derive(Clone, Copy)]
 pub struct Place {
     pub name: u16,
@@ -95,7 +96,7 @@ impl Place {
         }
     }
 
-    // Whether all is 0.
+    // Whether all is 0. (Not `== Place::none()`: cards and places would derive equality for this alone.)
     #[tactic(auto, unfolding(crate::specs::Place::is_clear))]
     pub fn is_clear(self) -> bool
         ensures { result ≡ is_clear self }

@@ -48,7 +48,7 @@ struct Sums {
     starts: u64,
 }
 
-// The watches and the rack; which of them the stream goes through; and what it has come to.
+// The watches and the rack (arrays, since no memory is asked for); which of them the stream goes through; and what it has come to.
 #[derive(Clone, Copy)]
 struct Run {
     way: Way,
@@ -56,11 +56,6 @@ struct Run {
     watches: [Matcher; CARDS],
     rack: Rack,
     sums: Sums,
-}
-
-// The bytes behind the first n, none if there are fewer.
-fn behind(bytes: &[u8], n: usize) -> &[u8] {
-    &bytes[n.min(bytes.len())..]
 }
 
 // Reads what stands before the stream, if it can be read, and what stands behind it. A byte that is missing is 0.
@@ -75,11 +70,11 @@ fn read_front(input: &[u8]) -> Option<(Front, &[u8])> {
         return None;
     }
     let mut cards = [Signature::none(); CARDS];
-    let mut rest = behind(input, 2);
+    let mut rest = input.get(2..).unwrap_or(&[]);
     for card in cards.iter_mut().take(many) {
         let read = read_signature(rest).ok()?;
         *card = read.signature;
-        rest = behind(rest, read.taken);
+        rest = rest.get(read.taken..)?;
     }
     let front = Front { way, cards, many };
     Some((front, rest))

@@ -83,7 +83,8 @@ pub fn put_head(buf: &mut [u8], length: u32, kind: u64)
     put(buf, KIND_AT, Width::Half, kind);
 }
 
-// Reads the head of a record: 8, length under 2 (10), 9, length under the least of its kind (10).
+// Reads the head of a record: 8, length under 2 (10), 9, length under the least of its kind (10). (A kind is a number: `head_refusal` is of every
+// one.)
 pub fn check_head(buf: &[u8], kind: u64, least: u64) -> Verdict
     ensures { number result ≡ head_refusal kind least buf.now }
 {

@@ -26,7 +26,7 @@ pub enum Refusal {
     TooWide,
 }
 
-// What stands beside other values: nothing was refused, or what was. A call that hands back nothing beside a refusal is a `Result` of its value.
+// Whether something was refused: the result of a call with no value, and a field where values stand beside a refusal too.
 pub type Verdict = Result<(), Refusal>;
 
 impl Refusal {

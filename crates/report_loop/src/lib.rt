@@ -17,21 +17,22 @@ use std::io;
 const BUFFER: usize = 65536;
 
 // How many bytes were read and written in all.
-#[derive(Clone, Copy)]
+#[derive(Clone, Copy, PartialEq, Eq, Debug)]
 pub struct Counts {
     pub read: u64,
     pub written: u64,
 }
 
 // Why a run came to no end: a read failed, behind so many bytes read and written; or output could not be written.
-#[derive(Clone, Copy)]
+#[derive(Clone, Copy, PartialEq, Eq, Debug)]
 pub enum Failure {
     Unreadable(Counts),
     Unwritable,
 }
 
 // How far the run has come: what was refused, if something was; how many bytes were read and written; and whether more is to be read.
-// (A verdict stands beside the rest: a refusal ends the run, but `last_lines` says t and the total with it.)
+// (A verdict stands beside the rest: a refusal ends the run, but `last_lines` says t and the total with it; and `more` is false at the input's
+// end too.)
 #[derive(Clone, Copy)]
 struct State {
     progress: Progress,
@@ -66,7 +67,7 @@ fn pass<W: io::Write>(
         let fed = feed(progress, &chunk[next..], out);
         written = put(to, &out[..fed.used], written)?;
         progress = fed.progress;
-        next = next + fed.taken;
+        next += fed.taken;
         if fed.verdict.is_err() {
             return Ok(State {
                 progress,
@@ -133,7 +134,8 @@ fn open<W: io::Write>(to: &mut W, front: &[u8], out: &mut [u8; BUFFER]) -> Resul
     }
 }
 
-// Reads the next chunk, and writes what it brings. There are none behind an empty one.
+// Reads the next chunk, and writes what it brings. There are none behind an empty one. (Reader, writer and both buffers go through three functions:
+// a struct of four loans would be lent anew at each call, and be no plainer.)
 fn turn<R: io::Read, W: io::Write>(
     from: &mut R,
     to: &mut W,

@@ -21,7 +21,8 @@ use stage::{MAX_TAKEN, Mark, STAGES, Stage};
 use walk::{Round, Walk};
 
 // Where a run of strokes ended: the watch; how many numbers were noted; all comparisons; the place behind the last byte taken; and why the next
-// byte was refused, if it was (beside the rest, since the bytes before it were taken).
+// byte was refused, if it was (beside the rest: `noted`, `comparisons` and `next` say of a refused
+// byte too what was taken before it).
 #[derive(Clone, Copy)]
 pub struct Ended {
     pub matcher: Matcher,
@@ -31,7 +32,7 @@ pub struct Ended {
     pub verdict: Verdict,
 }
 
-// A t up to which no start becomes ripe.
+// A t up to which no start becomes ripe. (As in matcher's `judge`, which finds it beside what it judges, in one pass.)
 fn quiet_until(stages: &[Stage; STAGES], m: u32) -> u64
     requires { (1 ≤ m) × (m ≤ max_length) }
     ensures { (result ≤ max_taken) × Unripe (levels m) m result stages.now }

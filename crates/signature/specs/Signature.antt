@@ -67,7 +67,7 @@ signature_of key p =
       prints = tabulate (λ i. cond (leb i (levels (length p))) (fp key (prefix p i)) empty) places;
     }
 
--- What stands in a result where the call is refused.
+-- The card that holds nothing, a misfit.
 abbrev pub no_signature : Signature
 no_signature = record { length = 0; key = no_key; prints = replicate places empty }
 

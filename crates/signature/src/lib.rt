@@ -36,14 +36,15 @@ pub struct Builder {
 }
 
 // The number of stages k of a pattern of m bytes: the least k with 2^k >= m.
+// (A count beside a number that is doubled: the library has no logarithm.)
 pub fn levels(m: u32) -> u32
     ensures { result ≡ levels m }
 {
     let mut k: u32 = 0;
     let mut size: u64 = 1;
     while size < (m as u64) {
-        size = size * 2;
-        k = k + 1;
+        size *= 2;
+        k += 1;
     }
     k
 }
@@ -123,7 +124,7 @@ fn store(prints: &mut [Fingerprint; PLACES], m: u32, n: u32, print: Fingerprint)
 }
 
 impl Signature {
-    // What stands in a result where a call is refused.
+    // The card that holds nothing, a misfit.
     pub fn none() -> Signature
         ensures { result ≡ no_signature }
     {
@@ -220,7 +221,7 @@ impl Builder {
         if self.taken < self.length {
             return Err(Refusal::Unfinished);
         }
-        let prints = self.prints;
+        let prints = self.prints; // an array is made part of a literal by a name of its own
         Ok(Signature {
             length: self.length,
             key: self.key,

@@ -127,7 +127,7 @@ impl Gap {
     }
 }
 
-// Whether t - start is from `short` to `long` - 1.
+// Whether t - start is from `short` to `long` - 1. (Three numbers: `age_fits`, `one_fits` and `many_fit` of specs/ have them one by one.)
 fn age_fits(short: u32, long: u32, t: u64, start: u64) -> bool
     ensures { result ≡ age_fits short long t start }
 {
@@ -236,8 +236,10 @@ impl Stage {
             return true;
         }
         let shift = powers.raise(self.step.length);
-        let first = self.first.print;
-        let reached = first.join_times(self.step.print, shift, self.held - 1);
+        let reached = self
+            .first
+            .print
+            .join_times(self.step.print, shift, self.held - 1);
         self.last.print == reached
     }
 

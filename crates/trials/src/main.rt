@@ -8,7 +8,7 @@ ghost use Rattle.std.specs.Prelude.{◌<◌, length, IfSome};
 
 use crate::account::Case;
 use driver_input::until;
-use fields::{Width, number_at};
+use record::word_at;
 use std::io;
 
 mod account; // account.rt: an answer, held against demand 3
@@ -29,14 +29,14 @@ const LONGEST_STREAM: usize = 9000;
 fn next_case<'a>(input: &'a [u8]) -> Option<(Case<'a>, &'a [u8])>
     ensures { IfSome result (λ r. length r.1.now < length input.now) }
 {
-    let m = number_at(input, 4, Width::Word) as usize;
-    let n = number_at(input, 8, Width::Word) as usize;
+    let m = word_at(input, 4) as usize;
+    let n = word_at(input, 8) as usize;
     if LONGEST_PATTERN < m || LONGEST_STREAM < n || input.len() < HEAD + m + n {
         return None;
     }
     let (pattern, rest) = input[HEAD..].split_at(m);
     let (stream, behind) = rest.split_at(n);
-    let key = (number_at(input, 0, Width::Word) % 4294967296) as u32;
+    let key = word_at(input, 0);
     Some((
         Case {
             pattern,

@@ -23,7 +23,7 @@ const SECOND: u8 = 85;
 // The longest stream that is cut before each byte alone.
 const SHORT: usize = 64;
 
-// Before which bytes a stream is cut; bytes are counted from 1.
+// Before which bytes a stream is cut; bytes are counted from 1. (Three ways, so no Option.)
 #[derive(Clone, Copy, PartialEq, Eq)]
 enum Cuts {
     None,
@@ -31,7 +31,8 @@ enum Cuts {
     Before(usize),
 }
 
-// The length of the prefix behind one of `size` bytes, for a pattern of m bytes: twice as much, at most the whole; 0 behind the last.
+// The length of the prefix behind one of `size` bytes, for a pattern of m bytes: twice as much, at most the whole; 0 behind the last
+// (no Option: a card has 0 there, the fingerprint of no bytes).
 fn next_size(size: usize, m: usize) -> usize {
     if m <= size {
         return 0;

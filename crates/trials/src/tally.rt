@@ -42,7 +42,7 @@ impl Tally {
         self.digest = mixed as u32;
     }
 
-    // The counters, and the line's end.
+    // The counters, and the line's end. (No Display: they are counters of one width, printed by one loop.)
     pub(crate) fn print(&self, rt: &HostRuntime) -> io::Result<()> {
         let counters = [
             self.passes,

@@ -16,7 +16,7 @@ pub use Rattle.walk.specs.declared.Walk.{Walk}
 abbrev pub no_progression : Progression
 no_progression = record { first = 0; step = 0; many = 0 }
 
--- the answer before anything was found, and where a byte is refused
+-- the answer before anything was found
 abbrev pub no_answer : Answer
 no_answer = record { ring = None; sets = replicate stage_count no_progression; asides = 0; comparisons = 0 }
 

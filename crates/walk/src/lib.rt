@@ -37,7 +37,7 @@ pub struct Walk {
 }
 
 impl Answer {
-    // The answer before anything was found, and where a byte is refused.
+    // The answer before anything was found.
     pub fn none() -> Answer
         ensures { result ≡ no_answer }
     {

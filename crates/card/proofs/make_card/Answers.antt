@@ -10,28 +10,26 @@ use Rattle.card_core.proofs.Cards.{stands}
 use Rattle.card.specs.Outcome as outcome
 use Rattle.card.proofs.make_card.Goals as goal
 
-pub returns-in_err-used : goal.returns-in_err-used
-returns-in_err-used g c =
-    let p = err_from_is_err_and c.from_residual.result c.from_residual.ensures.1 in
-    outcome.refused c.in-Ok.read c.in_err-used.field-0.0 (p.1 ∙ ap Err p.2) c.in-Ok.ensures.0 c.in_err-used.ensures.verdict
+pub returns-in-Err : goal.returns-in-Err
+returns-in-Err g c = outcome.refused c.in-Ok.read c.in-Err.refusal refl c.in-Ok.ensures.0 c.in-Err.ensures.verdict
 
 pub slice_bounds-write-end : goal.slice_bounds-write-end
 slice_bounds-write-end g c =
-    let w = c.in_ok-used.ensures in
+    let w = c.in-Ok-write_card.ensures in
     let card = stands c.args.key (take c.in-Ok.read c.fill.new.buf) c.args.out.now _ _ (sym w.verdict) w.used w.buffer in
     sym (length-take-le _ _ card.2)
 
 pub shared_ref_as_front-write : goal.shared_ref_as_front-write
 shared_ref_as_front-write g c =
-    let w = c.in_ok-used.ensures in
+    let w = c.in-Ok-write_card.ensures in
     let card = stands c.args.key (take c.in-Ok.read c.fill.new.buf) c.args.out.now _ _ (sym w.verdict) w.used w.buffer in
     let within = card.2 in
     omega (arith, within, c.write_card.auto.out, c.told-out)
 
 pub returns-in-Ok-write : goal.returns-in-Ok-write
 returns-in-Ok-write g c =
-    let w = c.in_ok-used.ensures in
+    let w = c.in-Ok-write_card.ensures in
     let card = stands c.args.key (take c.in-Ok.read c.fill.new.buf) c.args.out.now _ _ (sym w.verdict) w.used w.buffer in
-    let counted = all-written c.in-Ok-write.written c.write_card.new.out c.in_ok-used.used card.2 c.in-Ok-write.ensures in
-    outcome.written c.in-Ok.read c.in-Ok-write.written refl c.in-Ok.ensures.0 (sym w.verdict) (rw counted card.0)
+    let counted = all-written c.in-Ok-write.written c.write_card.new.out c.in-Ok-write_card.used card.2 c.in-Ok-write.ensures in
+    outcome.written (record { read = c.in-Ok.read; written = c.in-Ok-write.written }) refl c.in-Ok.ensures.0 (sym w.verdict) (rw counted card.0)
     (counted ∙ card.1)
