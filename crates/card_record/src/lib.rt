@@ -50,7 +50,7 @@ fn put_prints(buf: &mut [u8], prints: &[Fingerprint])
     }
 }
 
-// Writes the card's record at the front of a buffer that has room for it.
+// Writes the card's record at the front of a buffer that has room for it. (k and the room were found by the caller.)
 fn put_signature(buf: &mut [u8], signature: Signature, k: u32)
     requires { (k ≡ levels signature.length) × (k < places) × (print_place + print_size * (k + 1) ≤ length buf.old) }
     ensures { buf.new ≡ pasted buf.old 0 (signature_record signature) }

@@ -60,7 +60,7 @@ fn put_stages(buf: &mut [u8], format: Format, stages: &[Stage])
     }
 }
 
-// Writes the checkpoint's record at the front of a buffer that has room for it.
+// Writes the checkpoint's record at the front of a buffer that has room for it. (k and the room were found by the caller.)
 fn put_checkpoint(buf: &mut [u8], format: Format, matcher: Matcher, k: u32)
     requires { (k ≡ levels matcher.signature.length) × (k ≤ stage_count) × (stages_place format + stage_size format * k ≤ length buf.old) }
     ensures { buf.new ≡ pasted buf.old 0 (checkpoint_record format matcher) }

@@ -10,7 +10,7 @@ use driver_values::cards::{key, print};
 use fields::{Width, field_at, number_at};
 use record::{check_head, key_at, print_at, put_head, put_key, put_print, put_word, word_at};
 
-// The width of 2 or 4 bytes, else that of 8.
+// The width of 2 or 4 bytes, else that of 8. (No TryFrom: every other number has a meaning here.)
 fn width(n: u64) -> Width {
     match n {
         2 => Width::Half,

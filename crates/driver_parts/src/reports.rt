@@ -61,7 +61,7 @@ fn put_decimal(rt: &HostRuntime, values: &[u8]) {
     tell_buffer(rt, lent);
 }
 
-// The refusal of a number; acceptance for a number that no refusal has.
+// The refusal of a number; acceptance for a number that no refusal has. (No TryFrom: every other number has a meaning here.)
 fn verdict(n: u64) -> Verdict {
     match n {
         1 => Err(Refusal::Empty),

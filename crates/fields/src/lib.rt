@@ -25,7 +25,7 @@ impl Width {
     }
 }
 
-// Whether n bytes stand from `at` on, where there are `len` in all.
+// Whether n bytes stand from `at` on, where there are `len` in all. (One line, as in notes and report_lines for sizes of their own.)
 fn reaches(len: usize, at: usize, n: usize) -> bool
     ensures { result ≡ leb (at + n) len }
 {

@@ -69,7 +69,7 @@ impl Key {
         self == Self::none()
     }
 
-    // The number that the key is.
+    // The number that the key is. (A method and no From, as `new` and those of a print: docs/CLAIMS.md names them.)
     pub fn number(self) -> u32
         ensures { result ≡ key_number self }
     {

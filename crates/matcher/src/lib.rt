@@ -119,7 +119,8 @@ impl Matcher {
         }
     }
 
-    // The same of a watch that is to take a byte. Refusals: 10 misfit, 6 spent.
+    // The same of a watch that is to take a byte. Refusals: 10 misfit, 6 spent. (Powers, count and flag are what each caller has of its own: a struct
+    // of them would be made for these three functions alone.)
     fn ready(&self, powers: &Powers, since: u64, asked: bool) -> Result<u64, Refusal>
         ensures verdict { number result ≡ shared_refusal powers.now.key since self.entry.now }
         ensures until { IfOk result (λ until. asked ≡ true → Unripe (levels self.entry.now.signature.length) self.entry.now.signature.length until self.entry.now.stages) }

@@ -16,7 +16,8 @@ pub const NOTE: usize = 5;
 // The room that a list must have for the notes of one byte.
 pub const NOTE_ROOM: usize = NOTE * (STAGES + 1);
 
-// A note at a place of the list, and the place behind it.
+// A note at a place of the list, and the place behind it. (The room is asked of the caller, here and below: the list is lent, and is written where
+// it lies.)
 fn put_note(notes: &mut [u64], at: usize, note: [u64; NOTE]) -> usize
     requires { at + note_size ≤ length notes.old }
     ensures { Stored notes.old at note note_size result notes.new }

@@ -30,6 +30,7 @@ pub enum Refusal {
 pub type Verdict = Result<(), Refusal>;
 
 impl Refusal {
+    // Document 01's number. (A method and no From: README.md and the contracts name it.)
     pub fn number(self) -> u32
         ensures { result ≡ refusal_number self }
     {

@@ -26,7 +26,7 @@ pub const ROOM: usize = 2048;
 // The longest line.
 pub const MOST_LINE: usize = 86;
 
-// A space and a number.
+// A space and a number. (The room is asked of the caller, here and below: the buffer is lent, and is written where it lies.)
 fn put_item(buf: &mut [u8], at: usize, n: u64) -> usize
     requires { at + most_item ≤ length buf.old }
     ensures { Stored buf.old at (item n) most_item result buf.new }

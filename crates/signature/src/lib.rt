@@ -56,7 +56,7 @@ pub fn prefix_length(m: u32, i: u32) -> u32
     if i < 32 { (1 << i).min(m) } else { m }
 }
 
-// Whether `taken` bytes of a pattern of m bytes reach P_i, where k is its last.
+// Whether `taken` bytes of a pattern of m bytes reach P_i, where k is its last (found once for all i, here and in `completes`).
 fn reaches(m: u32, taken: u32, k: u32, i: u32) -> bool
     requires { k ≡ levels m }
     ensures { result ≡ reached m taken i }

@@ -70,7 +70,7 @@ fn run(rt: &HostRuntime, input: &[u8]) -> io::Result<u32> {
     Ok(failures)
 }
 
-// Reads the cases and tries them.
+// Reads the cases and tries them. (What comes is read as in the other programs: three lines, in crates of their own.)
 fn serve(rt: &HostRuntime, room: &mut [u8; ROOM]) -> io::Result<()> {
     println!(rt;
         "pattern stream passes cuts occurrences missed rings false sets aside comparisons digest failures"

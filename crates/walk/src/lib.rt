@@ -87,7 +87,7 @@ fn matches(shift: Power, start: Mark, now: Mark, print: Fingerprint) -> bool
 }
 
 impl Walk {
-    // A start is compared with P_i, of P_0 to P_k. On a match it rings if i is k, else it enters stage i.
+    // A start is compared with P_i, of P_0 to P_k. On a match it rings if i is k, else it enters stage i. (k is found once for a byte.)
     #[tactic(auto, unfolding(crate::specs::Climb::tried_by, crate::specs::Climb::promoted_by))]
     fn compare(&mut self, c: &Round, shifts: &[Power; PLACES], i: usize, k: usize, start: Mark)
         requires top { (k ≡ levels c.now.signature.length) × (k ≤ stage_count) }
