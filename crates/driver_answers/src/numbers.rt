@@ -1,4 +1,6 @@
 // Answers: numbers, buffers and lists on standard output.
+ghost use Rattle.std.specs.Prelude.{◌≡◌, [], ◌∷◌, MatchOption};
+
 use driver_input::until;
 use fields::Width;
 use refusal::{Refusal, number_of};
@@ -39,9 +41,14 @@ pub fn tell_verdict<T>(rt: &HostRuntime, outcome: &Result<T, Refusal>) {
     tell_word(rt, number_of(outcome));
 }
 
-// 1 and a number, or twice 0 where there is none.
-pub fn tell_option(rt: &HostRuntime, number: Option<u64>) {
-    tell_all(rt, &number.map_or([0, 0], |n| [1, n]));
+// What is told of a number that may be missing: 1 and the number, or twice 0.
+pub fn option_numbers(number: Option<u64>) -> [u64; 2]
+    ensures { MatchOption number (result ≡ 0 ∷ 0 ∷ []) (λ n. result ≡ 1 ∷ n ∷ []) }
+{
+    match number {
+        Some(n) => [1, n],
+        None => [0, 0],
+    }
 }
 
 pub fn tell_buffer(rt: &HostRuntime, bytes: &[u8]) {

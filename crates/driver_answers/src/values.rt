@@ -1,5 +1,5 @@
 // Cards, stages, watches, answers to a byte and racks as answers: their numbers, one behind another.
-use crate::numbers::{tell_all, tell_option, tell_word};
+use crate::numbers::{option_numbers, tell_all, tell_word};
 use fingerprint::{Fingerprint, Key};
 use matcher::Matcher;
 use rack::Rack;
@@ -72,7 +72,7 @@ pub fn tell_set(rt: &HostRuntime, set: Progression) {
 
 // The ring, how many sets count, the comparisons, and all places for sets.
 pub fn tell_answer(rt: &HostRuntime, answer: Answer) {
-    tell_option(rt, answer.ring);
+    tell_all(rt, &option_numbers(answer.ring));
     tell_all(rt, &[answer.asides as u64, answer.comparisons as u64]);
     for set in answer.sets {
         tell_set(rt, set);

@@ -2,7 +2,7 @@
 // (The input says which call is made, by its number: a `match` on it says so most plainly.)
 use checkpoint_format::{Format, checkpoint_size};
 use driver_answers::numbers::{
-    tell, tell_buffer, tell_option, tell_size, tell_verdict, tell_whether, tell_word,
+    option_numbers, tell, tell_all, tell_buffer, tell_size, tell_verdict, tell_whether, tell_word,
 };
 use driver_answers::values::{tell_key, tell_print};
 use driver_input::{LENT, buffer, flag, from, lend, number, word};
@@ -50,7 +50,7 @@ pub fn call(rt: &HostRuntime, op: u64, values: &[u8]) {
     let rest = from(values, 2);
     let bytes = buffer(rest);
     match op {
-        96 => tell_option(rt, field_at(bytes, at, width(second))),
+        96 => tell_all(rt, &option_numbers(field_at(bytes, at, width(second)))),
         97 => tell(rt, number_at(bytes, at, width(second))),
         98 => tell_altered(rt, from(values, 3), |lent| {
             fields::put(lent, at, width(second), number(values, 2))

@@ -1,7 +1,7 @@
 // The printing program's steps and lines, and decimal numbers. A buffer that is written into is the last value.
 // (The input says which call is made, by its number: a `match` on it says so most plainly.)
 use driver_answers::numbers::{
-    tell, tell_buffer, tell_option, tell_size, tell_verdict, tell_whether,
+    option_numbers, tell, tell_all, tell_buffer, tell_size, tell_verdict, tell_whether,
 };
 use driver_answers::values::tell_watch;
 use driver_input::{
@@ -93,7 +93,7 @@ fn tell_put<F: FnOnce(&mut [u8]) -> Option<usize>>(rt: &HostRuntime, rest: &[u8]
     let mut room = [0u8; LENT];
     let lent = lend(rest, &mut room);
     let behind = put(lent);
-    tell_option(rt, behind.map(|next| next as u64));
+    tell_all(rt, &option_numbers(behind.map(|next| next as u64)));
     tell_buffer(rt, lent);
 }
 
@@ -117,7 +117,7 @@ pub fn call(rt: &HostRuntime, op: u64, values: &[u8]) {
     let third = number(values, 2);
     let at = first as usize;
     match op {
-        49 => tell_option(rt, decimal::parse(buffer(values))),
+        49 => tell_all(rt, &option_numbers(decimal::parse(buffer(values)))),
         50 => put_decimal(rt, values),
         56 => tell_begun(rt, report_core::begin(buffer(values))),
         57 => feed(rt, values),
