@@ -117,9 +117,11 @@ fn store(prints: &mut [Fingerprint; PLACES], m: u32, n: u32, print: Fingerprint)
 {
     let k = levels(m);
     for (i, place) in prints.iter_mut().enumerate() {
-        if completes(m, n, k, i as u32) {
-            *place = print;
-        }
+        *place = if completes(m, n, k, i as u32) {
+            print
+        } else {
+            *place
+        };
     }
 }
 

@@ -40,14 +40,14 @@ loop-i-preserved c =
     let lt : i < length l = omega (arith, before.long) in
     elim c.if-completes.branch [
       | then-completes w ↦
-          rw w.prints-is
+          rw w.place-is
           (record {
             long = length-set l i a.print ∙ before.long;
             stored = passed _ l i _ lt before.stored (rw (sym c.completes.ensures ∙ w.if-completes.true) refl);
             others = kept _ l i _ before.others;
           })
       | else-completes w ↦
-          rw w.prints-is
+          rw w.place-is
           (record {
             long = length-set l i _ ∙ before.long;
             stored =
