@@ -98,8 +98,8 @@ impl Place {
 
     // Whether all is 0. (Not `== Place::none()`: cards and places would derive equality for this alone.)
     #[tactic(auto, unfolding(crate::specs::Place::is_clear))]
-    pub fn is_clear(self) -> bool
-        ensures { result ≡ is_clear self }
+    pub fn is_clear(&self) -> bool
+        ensures { result ≡ is_clear self.entry.now }
     {
         self.name == 0
             && self.since == 0
@@ -110,8 +110,8 @@ impl Place {
     }
 
     // Whether the place is all 0, if it is free.
-    pub fn free_fits(self) -> bool
-        ensures { result ≡ free_fits self }
+    pub fn free_fits(&self) -> bool
+        ensures { result ≡ free_fits self.entry.now }
     {
         !self.is_free() || self.is_clear()
     }
