@@ -3,7 +3,8 @@
 // that cannot be written.
 #![tactic(auto)]
 
-ghost use Rattle.std.specs.Prelude.{◌≡◌};
+ghost use Rattle.std.specs.Prelude.{◌≡◌, length};
+ghost use Rattle.card_core.specs.Card.{overlong};
 ghost use Rattle.card.specs.Outcome.{Carded};
 ghost use Rattle.card.specs.declared.Failure.TheVariants.{Refused};
 
@@ -50,7 +51,8 @@ fn make_card<R: io::Read, W: io::Write>(
     passage: &mut [u8; PASSAGE_ROOM],
     out: &mut [u8; CARD_ROOM],
 ) -> Result<Made, Failure>
-    ensures { Carded key passage.new out.old out.new result }
+    ensures room { overlong ≡ length passage.new }
+    ensures card { Carded key passage.new out.old out.new result }
 {
     let Ok(read) = descriptor::fill(from, passage) else {
         return Err(Failure::Unreadable);

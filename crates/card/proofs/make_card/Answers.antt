@@ -10,8 +10,8 @@ use Rattle.card_core.proofs.Cards.{stands}
 use Rattle.card.specs.Outcome as outcome
 use Rattle.card.proofs.make_card.Goals as goal
 
-pub returns-in-Err : goal.returns-in-Err
-returns-in-Err g c = outcome.refused c.in-Ok.read c.in-Err.refusal refl c.in-Ok.ensures.0 c.in-Err.ensures.verdict
+pub returns-in-Err-clause-card : goal.returns-in-Err-clause-card
+returns-in-Err-clause-card g c = outcome.refused c.in-Ok.read c.in-Err.refusal refl c.in-Ok.ensures.0 c.in-Err.ensures.verdict
 
 pub slice_bounds-write-end : goal.slice_bounds-write-end
 slice_bounds-write-end g c =
@@ -26,8 +26,8 @@ shared_ref_as_front-write g c =
     let within = card.2 in
     omega (arith, within, c.write_card.auto.out, c.told-out)
 
-pub returns-in-Ok-write : goal.returns-in-Ok-write
-returns-in-Ok-write g c =
+pub returns-in-Ok-write-clause-card : goal.returns-in-Ok-write-clause-card
+returns-in-Ok-write-clause-card g c =
     let w = c.in-Ok-write_card.ensures in
     let card = stands c.args.key (take c.in-Ok.read c.fill.new.buf) c.args.out.now _ _ (sym w.verdict) w.used w.buffer in
     let counted = all-written c.in-Ok-write.written c.write_card.new.out c.in-Ok-write_card.used card.2 c.in-Ok-write.ensures in
