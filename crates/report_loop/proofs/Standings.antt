@@ -11,9 +11,11 @@ use lib.Seq.{length-take-le}
 use borrow.Author.Tests.{ltb-true, leb-true, eqb-true}
 use Rattle.std.specs.Prelude.{Result, Ok, Err}
 use Rattle.refusal.specs.declared.Refusal.{Refusal}
-use Rattle.refusal.specs.Number.{number}
+use Rattle.refusal.specs.Number.{number, refusal_number}
+use Rattle.refusal.proofs.Distinct.{refused-some}
 use Rattle.matcher.specs.Matcher.{no_matcher}
 use Rattle.lists.proofs.Laws.{and_left, and_right}
+use Rattle.lists.proofs.Cases.{by-test}
 use Rattle.stage.specs.Stage.{max_taken}
 use Rattle.report_core.specs.declared.Progress.{Progress}
 use Rattle.report_core.specs.declared.Begun.{Begun}
@@ -52,14 +54,17 @@ pub opened-refused :
     → s.progress.total ≡ 0
     → s.counts ≡ record { read = length chunk; written = 0 }
     → s.more ≡ false
-    → Standing chunk s
+    → Opened chunk (Ok s)
 opened-refused chunk refusal s q v e z k m =
-    rw (v, k, m)
-    (record {
-      sent = sent-refused chunk refusal s.progress q (rw e) z;
-      few = omega arith;
-      ready = λ more. let z : ◌≡◌ {A = ℕ} 0 1 = cc in absurd (omega arith);
-    })
+    rw (v, k, m) (
+      record {
+        sent = sent-refused chunk refusal s.progress q (rw e) z;
+        few = omega arith;
+        ready = λ more. let z : ◌≡◌ {A = ℕ} 0 1 = cc in absurd (omega arith);
+      },
+      by-test (leb card_bytes (length chunk) && eqb (refusal_number refusal) 0)
+          (λ both. absurd (refused-some {A = Unit {0}} {v = Err refusal} refl (eqb-true _ _ (and_right (leb card_bytes (length chunk)) _ both)))) (λ f. sym f),
+    )
 
 -- the card is read, and what stands behind it was passed
 module _ (chunk : List ℕ) (b : Begun) (q : Begins chunk (Ok b)) (short : length chunk ≤ card_bytes) (first : State)
@@ -83,7 +88,7 @@ module _ (chunk : List ℕ) (b : Begun) (q : Begins chunk (Ok b)) (short : lengt
       }
 
   pub opened : (r : Result State Failure) → Passed first (drop b.taken chunk) r → Opened chunk r
-  opened (Ok r) w = went r w
+  opened (Ok r) w = (went r w, rw more at w.goes)
   opened (Err (Unreadable counts)) w = let z : ◌≡◌ {A = ℕ} 0 1 = cc in absurd (omega arith)
   opened (Err Unwritable) w = tt
 

@@ -1,6 +1,6 @@
 -- What the functions of the program promise. All bytes that were read, and all that were written, are counted in the state; the toolchain's
 -- own read and write are the only calls of which nothing is said (docs/DECISIONS.md, "Read and write").
-use Rattle.std.specs.Prelude.{ℕ, ◌+◌, ◌*◌, ◌≤◌, ◌≡◌, true, false, ◌&&◌, List, length, take, ltb, eqb, Result, Ok, Err}
+use Rattle.std.specs.Prelude.{ℕ, ◌+◌, ◌*◌, ◌≤◌, ◌≡◌, Bool, true, false, ◌&&◌, List, length, take, ltb, leb, eqb, Result, Ok, Err}
 use Rattle.refusal.specs.Number.{number}
 use Rattle.stage.specs.Stage.{max_taken}
 use Rattle.report_core.specs.declared.Progress.{Progress}
@@ -82,8 +82,13 @@ abbrev pub Fronted : List ℕ → Result ℕ Failure → Type 0
 Fronted input (Ok n) = (n ≤ card_bytes) × (n ≤ length input)
 Fronted input (Err e) = Broken e
 
+-- The run goes on behind the front, of n bytes, unless the input is shorter than the bytes on which a card is judged.
+abbrev pub goes_on : ℕ → Bool
+goes_on n = leb card_bytes n
+
+-- The card was judged, and what stands behind it was passed: the run goes on as the front says, unless something was refused.
 abbrev pub Opened : List ℕ → Result State Failure → Type 0
-Opened input (Ok s) = Standing input s
+Opened input (Ok s) = Standing input s × (s.more ≡ goes_on (length input) && eqb (number s.verdict) 0)
 Opened input (Err e) = Broken e
 
 -- Behind several chunks, each of which has taken the place of the one before: there is an input that was read.
