@@ -43,12 +43,12 @@ pub struct Turn {
     pub answer: Answer,
 }
 
-// Whether stage i of a watch over m bytes fits at t and lists no start below a count. F_last is judged of a stage whose other numbers fit.
+// Whether stage i of a watch over m bytes fits at t and lists no start below a count. F_last is judged last, of a stage whose other numbers fit.
 #[tactic(auto, unfolding(stage::specs::Stage::stage_fits))]
 fn stage_fits(stage: Stage, powers: &Powers, m: u32, i: u32, t: u64, since: u64) -> bool
     ensures { result ≡ (stage_fits powers.now.key m i t stage && listed_from since stage) }
 {
-    stage.shape_fits(m, i, t) && stage.last_fits(powers) && stage.listed_from(since)
+    stage.shape_fits(m, i, t) && stage.listed_from(since) && stage.last_fits(powers)
 }
 
 // Whether each stage of a watch over m bytes fits at t and lists no start below a count, in one pass; if so, a t up to which no start becomes ripe,

@@ -75,11 +75,10 @@ pub shared-shifts :
     → table ≡ squares_of key most
     → k < places
     → k ≡ levels m
-    → m ≤ most
+    → levels m ≤ levels most
     → whole ≡ power key m
     → Shifts key m (set table k whole)
-shared-shifts key most m k table whole t room last l e j h =
-    let reach = levels-mono m most l in
+shared-shifts key most m k table whole t room last reach e j h =
     let size : length table ≡ places = rw t (length-tabulate (square key most) places) in
     elim (ℕ_discrete j k) [
       | yes a ↦

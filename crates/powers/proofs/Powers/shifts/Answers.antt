@@ -3,7 +3,7 @@ use mathlib.Core.Path.{◌∙◌, ap}
 use native.Mathlib.Omega.{arith}
 use Rattle.ladder.proofs.Levels.{levels-bound}
 use Rattle.powers.specs.Powers.{squares_of}
-use Rattle.powers.proofs.Digits.{shared-shifts}
+use Rattle.powers.proofs.Digits.{levels-mono, shared-shifts}
 use Rattle.powers.proofs.Powers.shifts.Goals as goal
 use Rattle.powers.proofs.Powers.shifts.Goals.{then-self-m, else-self-m}
 
@@ -20,8 +20,8 @@ returns-after-self-m c =
     elim c.if-self-m.branch [
       | then-self-m w ↦
           let table = w.shifts-is ∙ w.squares-shifts.ensures ∙ ap (λ t. squares_of t.key m) c.self.view_is in
-          shared-shifts own.key m m _ _ _ table placed c.levels.ensures (omega arith) c.raise.ensures
+          shared-shifts own.key m m _ _ _ table placed c.levels.ensures (levels-mono _ _ (omega arith)) c.raise.ensures
       | else-self-m w ↦
           let table = w.shifts-is ∙ c.self.invariant.0 ∙ ap (λ t. squares_of t.key t.most) c.self.view_is in
-          shared-shifts own.key own.most m _ _ _ table placed c.levels.ensures (omega arith) c.raise.ensures
+          shared-shifts own.key own.most m _ _ _ table placed c.levels.ensures (levels-mono _ _ (omega arith)) c.raise.ensures
     ]
