@@ -35,8 +35,11 @@ fn stroke(rt: &HostRuntime, watch: Matcher, byte: u8) {
     tell_stroke(rt, watch, watch.stroke(byte));
 }
 
+// Where the stroke is refused, the watch that is told is the one that was lent.
 fn stroke_in_place(rt: &HostRuntime, watch: Matcher, byte: u8) {
-    tell_stroke(rt, watch, in_place::stroke_local(watch, byte));
+    let mut lent = watch;
+    let _ = in_place::stroke(&mut lent, byte);
+    tell_stroke(rt, lent, in_place::stroke_local(watch, byte));
 }
 
 // A stream: each of its bytes has an answer.
