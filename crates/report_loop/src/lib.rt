@@ -3,7 +3,7 @@
 // written, no last line is written.
 #![tactic(auto)]
 
-ghost use Rattle.std.specs.Prelude.{◌≤◌, ◌+◌, ◌*◌, ◌<◌, ◌≡◌, true, length};
+ghost use Rattle.std.specs.Prelude.{◌≤◌, ◌+◌, ◌*◌, ◌<◌, ◌≡◌, true, false, length};
 ghost use Rattle.report_core.specs.Output.{card_bytes};
 ghost use Rattle.stage.specs.Stage.{max_taken};
 ghost use Rattle.report_loop.specs.State.{buffer_size, Sound, Sends, Passed, Ready, Turned, Fronted, Opened, Stands, Ends, Closed, Over};
@@ -174,9 +174,9 @@ fn read_on<R: io::Read, W: io::Write>(
     Ok(s)
 }
 
-// Writes the last lines.
+// Writes the last lines, once no more is to be read.
 fn close<W: io::Write>(to: &mut W, s: State, out: &mut [u8; BUFFER]) -> Result<Counts, Failure>
-    requires { s.counts.written ≤ buffer_size * max_taken }
+    requires { (s.counts.written ≤ buffer_size * max_taken) × (s.more ≡ false) }
     ensures { Closed s result }
 {
     let Some(end) = finish(s.verdict, s.progress.matcher.now.at, s.progress.total, out) else {
